@@ -5,3 +5,4 @@ pub mod Follows
 pub mod Tariffs
 pub mod Prices
 pub mod Refusals
+pub mod Questions

@@ -2,9 +2,34 @@
 use Prim.Native.Nat.{ℕ}
 use Rattle.price.specs.declared.refusals.Refusal.{Refusal}
 use Rattle.price.specs.declared.refusals.Refusal.the-variants.{
-  NotDraft, EdgesFull, EdgeNumbers, EdgePrice, EdgeRepeated, RowsFull, RowRelation, RowNumbers, NotOneStart, NotOneEnd, NodeAstray,
-  NotSealed, TurnsCount, TurnsRange, Unbalanced, Stranded, RowBroken, NotOneTree, TreeRange, MultiplierSign, AllowanceShort, BoundTooHigh,
-  NotCertified, NothingToWithdraw, PriceRange, WeightRange, LineForm, ReplyRoom,
+  NotDraft,
+  EdgesFull,
+  EdgeNumbers,
+  EdgePrice,
+  EdgeRepeated,
+  RowsFull,
+  RowRelation,
+  RowNumbers,
+  NotOneStart,
+  NotOneEnd,
+  NodeAstray,
+  NotSealed,
+  TurnsCount,
+  TurnsRange,
+  Unbalanced,
+  Stranded,
+  RowBroken,
+  NotOneTree,
+  TreeRange,
+  MultiplierSign,
+  AllowanceShort,
+  BoundTooHigh,
+  NotCertified,
+  NothingToWithdraw,
+  PriceRange,
+  WeightRange,
+  LineForm,
+  ReplyRoom,
 }
 
 abbrev pub refusal-numbers : Refusal → ℕ × ℕ × ℕ

@@ -38,8 +38,8 @@ impl Weighted {
         }
     }
 
-    // Cycles + weight × reads, at most 2^60 either way.
-    fn weigh(self, p: Price) -> i64
+    /// What the tariff compares: cycles + weight × reads.
+    pub fn weigh(self, p: Price) -> i64
         ensures { λ r. ⌜ r ≡ p .cycles +ℤ pos (self .weight) *ℤ p .reads ⌝ }
     {
         p.cycles() + multiple(self.weight, p.reads())

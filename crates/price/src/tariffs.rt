@@ -29,5 +29,4 @@ pub trait Tariff {
 /// The theorem that the laws suffice: whatever the judge uses of a tariff follows from them alone.
 pub fn laws_suffice<T: Tariff>(tariff: &T)
     ensures { λ _. ⌜ Follows (le (now (tariff .entry))) (unit (now (tariff .entry))) ⌝ }
-{
-}
+{}
