@@ -67,6 +67,7 @@ module _ {le : Pair → Pair → Bool} {unit : Pair} (laws : Laws le unit) where
   follows = record {
     itself = le-refl;
     ranked = ranked;
+    unit-is-dearer = λ a. laws .step a a .0 (le-refl a);
     cheaper-is-no-dearer = cheaper-le;
     cancels = le-unplus;
     multiples = le-times;

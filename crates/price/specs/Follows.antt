@@ -11,6 +11,8 @@ pub record Follows (le : Pair → Pair → Bool) (unit : Pair) : Type 0 where
   pub itself : (a : Pair) → T (le a a)
   -- of two prices, one is cheaper than the other, or each is no dearer than the other
   pub ranked : (a b : Pair) → T (cheaper le a b) ⊎ ((T (le a b) × T (le b a)) ⊎ T (cheaper le b a))
+  -- one unit more is dearer, so no tariff finds all prices equal
+  pub unit-is-dearer : (a : Pair) → T (cheaper le a (a ⊕ unit))
   pub cheaper-is-no-dearer : (a b : Pair) → T (cheaper le a b) → T (le a b)
   -- what is added on both sides makes no difference
   pub cancels : (a b c : Pair) → T (le (a ⊕ c) (b ⊕ c)) → T (le a b)

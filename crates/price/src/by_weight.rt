@@ -1,9 +1,10 @@
 // Cycles, with each read counted as a fixed number of them.
-ghost use lib.IntN.{_+ℤ_, _*ℤ_, pos};
+ghost use lib.IntN.{_*ℤ_, pos};
 ghost use mathlib.Core.Path.{_≡_};
 ghost use Prim.Native.Nat.{_≤_, _<_, _^_};
+ghost use Rattle.price.specs.Prices.{pair};
 ghost use Rattle.price.specs.Ranges.{Within};
-ghost use Rattle.price.specs.Tariffs.{by-weight, one-cycle};
+ghost use Rattle.price.specs.Tariffs.{by-weight, one-cycle, weighed};
 ghost use Rattle.std.specs.Results.{Cases};
 use crate::prices::Price;
 use crate::refusals::Refusal;
@@ -18,14 +19,6 @@ pub struct Weighted {
     ghost weight_fits: { weight ≤ 255 },
 }
 
-// A multiple that stays far inside the type.
-fn multiple(n: u32, z: i64) -> i64
-    requires { ⌜ Within (2 ^ 62) (pos n *ℤ z) ⌝ }
-    ensures { λ r. ⌜ r ≡ pos n *ℤ z ⌝ }
-{
-    n as i64 * z
-}
-
 impl Weighted {
     /// The tariff of this weight, refused above 255.
     pub fn new(weight: u32) -> Result<Weighted, Refusal>
@@ -38,11 +31,19 @@ impl Weighted {
         }
     }
 
+    // The reads, weighed, which stay far inside the type.
+    fn weigh_reads(self, p: Price) -> i64
+        ensures value { λ r. ⌜ r ≡ pos (self .weight) *ℤ p .reads ⌝ }
+        ensures small { λ r. ⌜ Within (2 ^ 60) r ⌝ }
+    {
+        self.weight as i64 * p.reads()
+    }
+
     /// What the tariff compares: cycles + weight × reads.
     pub fn weigh(self, p: Price) -> i64
-        ensures { λ r. ⌜ r ≡ p .cycles +ℤ pos (self .weight) *ℤ p .reads ⌝ }
+        ensures { λ r. ⌜ r ≡ weighed (self .weight) (pair p) ⌝ }
     {
-        p.cycles() + multiple(self.weight, p.reads())
+        p.cycles() + self.weigh_reads(p)
     }
 }
 
