@@ -1,0 +1,2 @@
+mod RowAsked
+mod SealSays

@@ -1,0 +1,5 @@
+pub mod Calls
+pub mod Answers
+pub mod Cases
+pub mod Drafting
+pub mod Performing

@@ -1,0 +1,13 @@
+pub mod Graph
+pub mod Turns
+pub mod Rows
+pub mod Edges
+pub mod NewRows
+pub mod Coefficients
+pub mod Places
+pub mod Sealing
+pub mod Lowest
+pub mod Ways
+pub mod Sides
+pub mod Spreading
+pub mod EndsAnswer
