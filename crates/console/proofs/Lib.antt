@@ -1,0 +1,5 @@
+pub mod Buffers
+pub mod Naturals
+pub mod Lengths
+pub mod Feeds
+pub mod Turns

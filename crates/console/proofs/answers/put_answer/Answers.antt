@@ -1,0 +1,12 @@
+use native.Mathlib.Omega.{arith}
+use Rattle.console.proofs.Lengths.{number-fits, ends-fit, refusal-fits}
+use Rattle.console.proofs.answers.put_answer.Needs as need
+
+pub put-with-naturals-requires : need.put-with-naturals-requires
+put-with-naturals-requires c κs = number-fits _ _ (omega arith) (omega arith)
+
+pub put-with-naturals-requires-in-Ends : need.put-with-naturals-requires-in-Ends
+put-with-naturals-requires-in-Ends c κs = ends-fit _ _ _ (omega arith) (omega arith) (omega arith)
+
+pub put-with-naturals-requires-in-Refused : need.put-with-naturals-requires-in-Refused
+put-with-naturals-requires-in-Refused c κs = refusal-fits _ _ _ _ (omega arith) (omega arith) (omega arith) (omega arith)

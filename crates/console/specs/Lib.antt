@@ -1,0 +1,4 @@
+pub mod Writing
+pub mod Rendering
+pub mod Lines
+pub mod Judging
