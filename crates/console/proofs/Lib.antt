@@ -1,5 +1,6 @@
 pub mod Buffers
 pub mod Naturals
+pub mod Integers
 pub mod Lengths
 pub mod Feeds
 pub mod Turns

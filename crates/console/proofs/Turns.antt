@@ -7,14 +7,14 @@ use native.Mathlib.Omega.{arith}
 use lib.ListN.{length, take, drop, length-append}
 use Rattle.std.specs.declared.result.Result.the-variants.{Ok}
 use Rattle.std.proofs.shelf.Lists.{append-nil, nil-from-length, take-at}
-use Rattle.judge.specs.declared.calls.Answer.{Answer}
+use Rattle.judge.specs.Answers.{Said}
 use Rattle.judge.specs.Cases.{Contents}
 use Rattle.console.specs.Judging.{Judged, Replied, Replies, Reached}
 use Rattle.console.specs.Lines.{first-line, after-line, lines}
 use Rattle.console.specs.Rendering.{rendered}
 use Rattle.console.proofs.Feeds.{lines-next}
 
-replies-push : (held between kept : Contents) (texts : List (List ℕ)) (text bytes : List ℕ) (answer : Answer) →
+replies-push : (held between kept : Contents) (texts : List (List ℕ)) (text bytes : List ℕ) (answer : Said) →
     Replies held texts bytes between → Judged between text answer kept → Replies held (texts ++ (text ∷ [])) (bytes ++ rendered answer) kept
 replies-push held between kept [] text bytes answer none judged = record {
   answer = answer;
@@ -47,7 +47,7 @@ pub pushed-like : (was now part bytes : List ℕ) (b : Bool) → now ≡ cond b 
 pushed-like was now part bytes b is same = is ∙ ap (λ more. cond b (was ++ more) was) same
 
 -- the next line has its reply too
-pub reached-more : (held between kept : Contents) (texts : List (List ℕ)) (rest first after bytes more : List ℕ) (answer : Answer) →
+pub reached-more : (held between kept : Contents) (texts : List (List ℕ)) (rest first after bytes more : List ℕ) (answer : Said) →
     Reached held texts (lines rest) bytes between → 1 ≤ length rest → first ≡ first-line rest → after ≡ after-line rest →
     Judged between first answer kept → more ≡ bytes ++ rendered answer → Reached held texts (lines after) more kept
 reached-more held between kept texts rest first after bytes more answer reached some line left judged joined =

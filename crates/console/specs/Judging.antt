@@ -10,35 +10,35 @@ use Rattle.std.specs.declared.result.Result.{Result}
 use Rattle.std.specs.declared.result.Result.the-variants.{Ok}
 use Rattle.price.specs.declared.refusals.Refusal.{Refusal}
 use Rattle.price.specs.declared.refusals.Refusal.the-variants.{LineForm}
-use Rattle.judge.specs.declared.calls.Answer.{Answer}
-use Rattle.judge.specs.declared.calls.Answer.the-variants.{Refused}
+use Rattle.price.specs.Tariffs.{by-cycles, one-read}
+use Rattle.judge.specs.Answers.{Said, refused}
 use Rattle.judge.specs.Calls.{Request}
 use Rattle.judge.specs.Cases.{Contents}
 use Rattle.judge.specs.Performing.{answered, after}
 use Rattle.grammar.specs.Spelling.{Spells}
 use Rattle.console.specs.Rendering.{rendered}
 
--- a line is answered as the request that it spells, and refused if it spells none
-pub record Judged (held : Contents) (text : List ℕ) (answer : Answer) (kept : Contents) : Type 0 where
-  pub spelled : (q : Request) → Spells q text → (answer ≡ answered held q) × (kept ≡ after held q)
-  pub unspelled : ((q : Request) → Spells q text → ⊥) → (answer ≡ Refused LineForm) × (kept ≡ held)
+-- a line is answered as the request that it spells, cycles first, and refused if it spells none
+pub record Judged (held : Contents) (text : List ℕ) (answer : Said) (kept : Contents) : Type 0 where
+  pub spelled : (q : Request) → Spells q text → (answer ≡ answered by-cycles one-read held q) × (kept ≡ after by-cycles one-read held q)
+  pub unspelled : ((q : Request) → Spells q text → ⊥) → (answer ≡ refused LineForm) × (kept ≡ held)
 
 -- the reply stands at the front of the buffer, and the rest is as before
 pub record Replied (held : Contents) (text : List ℕ) (kept : Contents) (before after : List ℕ) (r : Result ℕ Refusal) : Type 0 where
-  pub answer : Answer
+  pub answer : Said
   pub judged : Judged held text answer kept
   pub ends : r ≡ Ok (length (rendered answer))
   pub buffer : after ≡ rendered answer ++ drop (length (rendered answer)) before
 
 -- a reply is added to those before it, where there is memory
 pub record Pushed (held : Contents) (text : List ℕ) (kept : Contents) (before after : List ℕ) (r : Result (Unit {0}) AllocError) : Type 0 where
-  pub answer : Answer
+  pub answer : Said
   pub judged : Judged held text answer kept
   pub items : after ≡ cond (isOk r) (before ++ rendered answer) before
 
 -- one line, and what comes after it
 pub record Turn (held : Contents) (text bytes : List ℕ) (Rest : Contents → List ℕ → Type 0) : Type 0 where
-  pub answer : Answer
+  pub answer : Said
   pub next : Contents
   pub more : List ℕ
   pub judged : Judged held text answer next

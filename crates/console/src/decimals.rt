@@ -2,8 +2,8 @@
 ghost use lib.ListN.{length};
 ghost use Prim.Native.Nat.{_+_, _≤_};
 ghost use Rattle.console.specs.Writing.{Appended};
-ghost use Rattle.grammar.specs.Spelling.{naturals};
-ghost use Rattle.std.specs.Written.{decimal};
+ghost use Rattle.grammar.specs.Spelling.{naturals, integers};
+ghost use Rattle.std.specs.Written.{decimal, signed};
 
 fn put_natural(buffer: &mut [u8], at: usize, number: u64) -> usize
     requires { ⌜ at + length (decimal number) ≤ length (now buffer) ⌝ }
@@ -18,6 +18,17 @@ fn put_natural(buffer: &mut [u8], at: usize, number: u64) -> usize
     last + 1
 }
 
+fn put_integer(buffer: &mut [u8], at: usize, number: i64) -> usize
+    requires { ⌜ at + length (signed number) ≤ length (now buffer) ⌝ }
+    ensures { λ r. ⌜ Appended at (signed number) (now (buffer .entry)) (now (buffer .exit)) r ⌝ }
+{
+    if number < 0 {
+        buffer[at] = b'-';
+        return put_natural(buffer, at + 1, number.unsigned_abs());
+    }
+    put_natural(buffer, at, number.unsigned_abs())
+}
+
 // Each number after one blank.
 pub(crate) fn put_naturals(buffer: &mut [u8], start: usize, numbers: &[u64]) -> usize
     requires { ⌜ start + length (naturals (now numbers)) ≤ length (now buffer) ⌝ }
@@ -27,6 +38,19 @@ pub(crate) fn put_naturals(buffer: &mut [u8], start: usize, numbers: &[u64]) -> 
     for number in numbers {
         buffer[at] = b' ';
         at = put_natural(buffer, at + 1, *number);
+    }
+    at
+}
+
+// The same for signed numbers.
+pub(crate) fn put_integers(buffer: &mut [u8], start: usize, numbers: &[i64]) -> usize
+    requires { ⌜ start + length (integers (now numbers)) ≤ length (now buffer) ⌝ }
+    ensures { λ r. ⌜ Appended start (integers (now (numbers .entry))) (now (buffer .entry)) (now (buffer .exit)) r ⌝ }
+{
+    let mut at = start;
+    for number in numbers {
+        buffer[at] = b' ';
+        at = put_integer(buffer, at + 1, *number);
     }
     at
 }

@@ -34,24 +34,33 @@ fn next_line(text: &[u8]) -> (&[u8], &[u8])
 }
 
 // Has the case do what the line asks, and adds the reply.
-fn push_reply(replies: &mut Vec<u8>, text: &[u8], case: &mut Case) -> Result<(), AllocError>
+fn push_reply(
+    replies: &mut Vec<u8>,
+    text: &[u8],
+    case: &mut Case,
+    turns: &mut [u32; 512],
+    table: &mut [i32; 512],
+) -> Result<(), AllocError>
     ensures { λ r. ⌜ Pushed (contents (now (case .entry))) (now (text .entry)) (contents (now (case .exit))) (vec-items (now (replies .entry))) (vec-items (now (replies .exit))) r ⌝ }
 {
     let mut reply = [0; 64];
-    let length = put_reply(text, case, &mut reply);
+    let length = put_reply(text, case, turns, table, &mut reply);
     replies.extend_from_slice(&reply[0..length])
 }
 
-/// Has the case do what each line of the text asks, and answers the replies, one after the other.
+/// Has the case do what each line of the text asks, judged cycles first, and answers the replies, one after the other.
 /// Without memory for a reply it stops after that line.
 pub fn session(heap: Global, case: &mut Case, text: &[u8]) -> Result<Vec<u8>, AllocError>
     ensures { λ r. ⌜ Cases r (λ v. Replies (contents (now (case .entry))) (lines (now (text .entry))) (vec-items v) (contents (now (case .exit)))) (λ _. Stopped (contents (now (case .entry))) (lines (now (text .entry))) (contents (now (case .exit)))) ⌝ }
 {
     let mut replies = Vec::new(heap);
+    // room for the numbers of a line, lent to each
+    let mut turns = [0; 512];
+    let mut table = [0; 512];
     let mut rest = text;
     while !rest.is_empty() {
         let (first, after) = next_line(rest);
-        push_reply(&mut replies, first, case)?;
+        push_reply(&mut replies, first, case, &mut turns, &mut table)?;
         rest = after;
     }
     Ok(replies)

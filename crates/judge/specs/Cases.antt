@@ -1,9 +1,8 @@
 -- What a case holds.
-use mathlib.Core.Bool.{Bool, true, false}
 use mathlib.Core.List.{List, [], map}
 use Rattle.judge.specs.declared.case.Case.{Case}
 use Rattle.judge.specs.declared.stages.Stage.{Stage}
-use Rattle.judge.specs.declared.stages.Stage.the-variants.{Draft, Sealed}
+use Rattle.judge.specs.declared.stages.Stage.the-variants.{Draft}
 use Rattle.std.specs.Of.Vec.{vec-items}
 use Rattle.task.specs.declared.edges.Edge.{Edge}
 use Rattle.task.specs.NewRows.{row-of}
@@ -20,7 +19,3 @@ contents case = record { stage = case .stage; edges = vec-items (case .edges); r
 
 abbrev pub fresh : Contents
 fresh = record { stage = Draft; edges = []; rows = [] }
-
-abbrev pub is-draft : Stage → Bool
-is-draft Draft = true
-is-draft (Sealed start end) = false

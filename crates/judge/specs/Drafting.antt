@@ -5,7 +5,8 @@ use Prim.Native.Nat.{ℕ}
 use lib.Dec.{ltb}
 use lib.IntN.{ℤ}
 use lib.ListN.{length}
-use Rattle.judge.specs.Cases.{Contents, is-draft}
+use Rattle.judge.specs.Cases.{Contents}
+use Rattle.judge.specs.Stages.{is-draft}
 use Rattle.judge.specs.declared.stages.Stage.the-variants.{Sealed}
 use Rattle.price.specs.Questions.{ask}
 use Rattle.price.specs.declared.refusals.Refusal.{Refusal}

@@ -1,6 +1,9 @@
 // The record of a case.
+ghost use mathlib.Core.Bool.{true};
+ghost use mathlib.Core.Path.{_≡_};
 ghost use Prim.Native.Nat.{_≤_};
-ghost use Rattle.std.specs.Of.Vec.{vec-cap, vec-len};
+ghost use Rattle.judge.specs.Stages.{ends-hold};
+ghost use Rattle.std.specs.Of.Vec.{vec-cap, vec-items, vec-len};
 use crate::stages::Stage;
 use task::Edge;
 use task::Row;
@@ -16,4 +19,5 @@ pub struct Case {
     ghost edge_room: { 64 ≤ vec-cap edges },
     ghost few_rows: { vec-len rows ≤ 24 },
     ghost row_room: { 24 ≤ vec-cap rows },
+    ghost ends_hold: { ends-hold stage (vec-items edges) ≡ true },
 }

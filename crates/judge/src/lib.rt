@@ -1,6 +1,7 @@
 // A task on trial: the case that holds it, and the calls on the case.
 mod calls;
 mod case;
+mod claiming;
 mod drafting;
 mod performing;
 mod stages;

@@ -7,4 +7,8 @@ pub enum Stage {
     Draft,
     /// The graph is fixed, between its two ends.
     Sealed { start: u8, end: u8 },
+    /// A claim was accepted.
+    Certified { start: u8, end: u8 },
+    /// A void claim was accepted: no run keeps every row.
+    Void { start: u8, end: u8 },
 }

@@ -32,17 +32,18 @@ runs-exist es run r = path-exists es (r .start) (r .end) run (r .leads)
 
 -- ---- blocks
 
-by-test : (b : Bool) (m n : ℕ) → cond b (m + n) 0 ≡ cond b m 0 + cond b n 0
+pub by-test : (b : Bool) (m n : ℕ) → cond b (m + n) 0 ≡ cond b m 0 + cond b n 0
 by-test true m n = refl
 by-test false m n = refl
 
-no-turns : (b : Bool) → _≡_ {A = ℕ} (cond b 0 0) 0
+pub no-turns : (b : Bool) → _≡_ {A = ℕ} (cond b 0 0) 0
 no-turns true = refl
 no-turns false = refl
 
-turns-linear : (p : Edge → Bool) → Linear 0 (λ m n. m + n) (λ e t. cond (p e) t 0) (turns-by p)
+pub turns-linear : (p : Edge → Bool) → Linear 0 (λ m n. m + n) (λ e t. cond (p e) t 0) (turns-by p)
 turns-linear p = record {
   no-edges = λ ts. refl;
+  turns-end = λ e es. refl;
   one-more = λ e es t ts. refl;
   no-turns = λ e. no-turns (p e);
   more-turns = λ e m n. by-test (p e) m n;
@@ -60,9 +61,10 @@ blocks-by-places es run exist b = by-places (turns-linear (λ e. eqb (e .block) 
 
 -- ---- prices
 
-price-linear : Linear zero (λ a b. a ⊕ b) (λ e t. times (pos t) (edge-price e)) price-of
+pub price-linear : Linear zero (λ a b. a ⊕ b) (λ e t. times (pos t) (edge-price e)) price-of
 price-linear = record {
   no-edges = λ ts. refl;
+  turns-end = λ e es. refl;
   one-more = λ e es t ts. refl;
   no-turns = λ e. no-times (edge-price e);
   more-turns = λ e m n. +-times (pos m) (pos n) (edge-price e);
@@ -81,7 +83,7 @@ prices-by-places es run =
 
 -- ---- rows
 
-swap : (a b c d : ℤ) → (a +ℤ b) +ℤ (c +ℤ d) ≡ (a +ℤ c) +ℤ (b +ℤ d)
+pub swap : (a b c d : ℤ) → (a +ℤ b) +ℤ (c +ℤ d) ≡ (a +ℤ c) +ℤ (b +ℤ d)
 swap a b c d = omega (arith, ints)
 
 none-of : (c z : ℤ) → c *ℤ pos 0 +ℤ z ≡ z
@@ -90,11 +92,11 @@ none-of c z = omega (arith, ints)
 one-of : (c : ℤ) → c *ℤ pos 1 +ℤ pos 0 ≡ c
 one-of c = omega (arith, ints)
 
-weigh-none : (i : ℕ) (cs : List ℤ) → weigh (λ b. 0) i cs ≡ pos 0
+pub weigh-none : (i : ℕ) (cs : List ℤ) → weigh (λ b. 0) i cs ≡ pos 0
 weigh-none i [] = refl
 weigh-none i (c ∷ cs) = none-of c (weigh (λ b. 0) (suc i) cs) ∙ weigh-none (suc i) cs
 
-weigh-add : (f g : ℕ → ℕ) (i : ℕ) (cs : List ℤ) → weigh (λ b. f b + g b) i cs ≡ weigh f i cs +ℤ weigh g i cs
+pub weigh-add : (f g : ℕ → ℕ) (i : ℕ) (cs : List ℤ) → weigh (λ b. f b + g b) i cs ≡ weigh f i cs +ℤ weigh g i cs
 weigh-add f g i [] = refl
 weigh-add f g i (c ∷ cs) =
     (λ j. *ℤ-+ℤ c (pos (f i)) (pos (g i)) j +ℤ weigh-add f g (suc i) cs j) ∙ swap (c *ℤ pos (f i)) (c *ℤ pos (g i)) (weigh f (suc i) cs) (weigh g (suc i) cs)
@@ -112,7 +114,7 @@ weigh-from (c ∷ cs) (suc b) i =
     (λ j. c *ℤ pos (spot-apart (i + suc b) i (λ is. omega arith) j) +ℤ weigh (spot ((add-suc i b ∙ sym (suc-add i b)) j)) (suc i) cs)
     ∙ none-of c (weigh (spot (suc i + b)) (suc i) cs) ∙ weigh-from cs b (suc i)
 
-weigh-spot : (b : ℕ) (cs : List ℤ) → weigh (spot b) 0 cs ≡ getD cs b (pos 0)
+pub weigh-spot : (b : ℕ) (cs : List ℤ) → weigh (spot b) 0 cs ≡ getD cs b (pos 0)
 weigh-spot b cs = subst (λ (n : ℕ). weigh (spot n) 0 cs ≡ getD cs b (pos 0)) (zero-add b) (weigh-from cs b 0)
 
 weigh-places : (es : List Edge) (row : Row) (run : List ℕ) → weigh (λ b. places-of es b run) 0 (row .coefficients) ≡ coefficients-along es row run

@@ -7,3 +7,8 @@ pub mod Linear
 pub mod ByPlaces
 mod Repeated
 mod Padded
+mod Rests
+mod ByEdges
+mod Flows
+pub mod Checks
+mod Costs

@@ -27,6 +27,7 @@ spot-apart x i ne = ap (λ b. cond b 1 0) (ne-eqb x i ne)
 -- `total` adds up, over the edges, what each gives for its turns
 pub record Linear {A : Type 0} (none : A) (add : A → A → A) (gives : Edge → ℕ → A) (total : List Edge → List ℕ → A) : Type 0 where
   pub no-edges : (ts : List ℕ) → total [] ts ≡ none
+  pub turns-end : (e : Edge) (es : List Edge) → total (e ∷ es) [] ≡ none
   pub one-more : (e : Edge) (es : List Edge) (t : ℕ) (ts : List ℕ) → total (e ∷ es) (t ∷ ts) ≡ add (gives e t) (total es ts)
   pub no-turns : (e : Edge) → gives e 0 ≡ none
   pub more-turns : (e : Edge) (m n : ℕ) → gives e (m + n) ≡ add (gives e m) (gives e n)

@@ -11,3 +11,6 @@ pub mod Ways
 pub mod Sides
 pub mod Spreading
 pub mod EndsAnswer
+pub mod Sound
+pub mod TurnsAnswer
+pub mod Pricing

@@ -12,8 +12,8 @@ use crate::edges::Side;
 use crate::spreading::joined_to;
 use price::Refusal;
 
-// One more than the highest number that an edge names.
-fn nodes(edges: &[Edge]) -> usize
+/// How many nodes there are: one more than the highest number that an edge names.
+pub fn nodes(edges: &[Edge]) -> usize
     ensures count { λ r. ⌜ r ≡ node-count (now (edges .entry)) ⌝ }
     ensures few { λ r. ⌜ r ≤ 256 ⌝ }
 {

@@ -9,10 +9,10 @@ use crate::edges::Edge;
 use crate::edges::Side;
 
 // As many as a node's number can name.
-const NODES: usize = 256;
+pub(crate) const NODES: usize = 256;
 
 // Whether edge `x` may be taken: it has turns, or the list of turns does not reach so far.
-fn live(turns: &[u32], x: usize) -> bool
+pub(crate) fn live(turns: &[u32], x: usize) -> bool
     ensures { λ r. ⌜ r ≡ is-live (now (turns .entry)) x ⌝ }
 {
     if x < turns.len() { turns[x] > 0 } else { true }

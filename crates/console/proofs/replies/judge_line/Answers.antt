@@ -1,4 +1,5 @@
 use mathlib.Core.Path.{_≡_, refl, ap, _∙_}
+use Rattle.price.specs.Tariffs.{by-cycles, one-read}
 use Rattle.judge.specs.Calls.{request}
 use Rattle.judge.specs.Cases.{contents}
 use Rattle.judge.specs.Performing.{answered, after}
@@ -12,6 +13,6 @@ returns-in-Some c =
     record {
       spelled = λ q h.
           let is = read .all q h in let same : own ≡ q = cc in
-          (c .perform .ensures .answer ∙ ap (answered held) same, c .perform .ensures .kept ∙ ap (after held) same);
+          (c .perform .ensures .answer ∙ ap (answered by-cycles one-read held) same, c .perform .ensures .kept ∙ ap (after by-cycles one-read held) same);
       unspelled = λ none. absurd (none own (read .only own refl));
     }

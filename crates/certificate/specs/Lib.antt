@@ -1,0 +1,13 @@
+pub mod Tasks
+pub mod Trees
+pub mod Lines
+pub mod LeafTests
+pub mod RangeTests
+pub mod Judged
+pub mod Soundness
+pub mod Reading
+pub mod Verdicts
+pub mod Splits
+pub mod Columns
+pub mod Held
+pub mod Ready
