@@ -95,6 +95,11 @@ fn weighted() -> Result<Weighted, AnyError> {
 fn run(rt: &LibcRuntime) -> Result<(), AnyError> {
     show(
         rt,
+        "the loop with the retry row",
+        "edge 0 1 0 20 1\nedge 1 2 1 50 4\nedge 2 1 2 5 0\nedge 2 3 3 10 2\nrow 1 0 -3 0 1\nclaim 4 1 4 3 1 0 1 245 19 60 6 10 2 0 0 55 4\nseal\nclaim 4 1 4 3 1 0 1 244 19 60 6 10 2 0 0 55 4\nclaim 4 1 3 2 1 0 1 245 19 60 6 10 2 0 0 55 4\nclaim 4 1 5 4 1 0 1 245 19 60 6 10 2 0 0 55 4\nclaim 4 1 4 3 1 0 1 245 19 60 6 10 2 0 0 55\nclaim 4 1 4 3 1 0 1001 245 19 60 6 10 2 0 0 55 4\nclaim 4 1 4 3 1 0 1000 245 19 60 6 10 2 0 0 55 4\nclaim 4 1 4 3 1 0 1 245 19 60 6 10 2 0 0 55 4\nclaim 4 1 4 3 1 0 1 245 19 60 6 10 2 0 0 55 4\n",
+    )?;
+    show(
+        rt,
         "the half-integral row with one split",
         "edge 0 1 0 20 1\nedge 1 2 1 50 4\nedge 2 1 2 5 0\nedge 2 3 3 10 2\nrow 1 0 -3 0 2\nseal\nclaim 4 1 2 1 1 1 2 1 0 1 80 7 60 6 10 2 0 0 0 0 55 4 0 0 3 0 0 0 0 0 0 0 1 0 1 0\nclaim 4 1 2 1 1 1 2 1 0 1 80 7 60 6 10 2 0 0 0 0 55 4 0 0 3 0 0 0 0 0 0 0 1 0 2 0\n",
     )?;
