@@ -3,12 +3,13 @@ use mathlib.Core.Bool.{Bool}
 use mathlib.Core.List.{List, map}
 use mathlib.Core.Path.{_≡_, sym, ap, _∙_, subst}
 use Prim.Native.Nat.{ℕ, _+_}
+use native.Mathlib.Omega.{arith}
 use lib.IntN.{ℤ, natAbs}
 use lib.ListN.{length, take}
 use Rattle.std.specs.declared.option.Option.{Option}
 use Rattle.std.specs.declared.option.Option.the-variants.{Some, None}
 use Rattle.std.specs.declared.result.Result.the-variants.{Ok}
-use Rattle.std.proofs.shelf.Lists.{length-map}
+use Rattle.std.proofs.shelf.Lists.{length-map, length-take-le}
 use Rattle.price.specs.Pairs.{Pair}
 use Rattle.certificate.specs.declared.reading.Record.{Record}
 use Rattle.certificate.specs.declared.turns.Path.{Path}
@@ -23,19 +24,22 @@ use Rattle.certificate.specs.Trees.{TreeRecord}
 use Rattle.certificate.specs.Verdicts.{leaf-answer}
 use Rattle.certificate.proofs.Ahead.{Standing, At, next, over}
 
-pub same-depth : (path : Path) (slice : List Turn) → slice ≡ take (path .depth) (path .turns) → length slice ≡ length (turns-of path)
-same-depth path slice e = ap length e ∙ sym (length-map (take (path .depth) (path .turns)) turn-of)
+same-depth : (path : Path) → length (turns-of path) ≡ path .depth
+same-depth path =
+    let deep = path .deep in
+    let room = path .room in
+    length-map (take (path .depth) (path .turns)) turn-of ∙ length-take-le (path .depth) (path .turns) (omega arith)
 
 module _ {nodes rows : ℕ} {le : Pair → Pair → Bool} {unit : Pair} {task : Task} {c : Pair} {whole : ℕ} {all : Answer} {n : ℕ} {xs : List ℤ} (path : Path)
-    (so : Standing nodes rows le unit task c whole all (turns-of path) n xs) (slice : List Turn) (e : slice ≡ take (path .depth) (path .turns)) where
-  depth : first-record nodes (rows + length (turns-of path)) xs ≡ first-record nodes (rows + length slice) xs
-  depth = ap (λ (k : ℕ). first-record nodes (rows + k) xs) (sym (same-depth path slice e))
+    (so : Standing nodes rows le unit task c whole all (turns-of path) n xs) where
+  depth : first-record nodes (rows + length (turns-of path)) xs ≡ first-record nodes (rows + path .depth) xs
+  depth = ap (λ (k : ℕ). first-record nodes (rows + k) xs) (same-depth path)
 
-  pub at-record : (r : Record) (v : TreeRecord) (ys : List ℤ) → _≡_ {A = Option (TreeRecord × List ℤ)} (Some (held r, ys)) (first-record nodes (rows + length slice) xs) → held r ≡ v →
+  pub at-record : (r : Record) (v : TreeRecord) (ys : List ℤ) → _≡_ {A = Option (TreeRecord × List ℤ)} (Some (held r, ys)) (first-record nodes (rows + path .depth) xs) → held r ≡ v →
       At nodes rows le unit task c whole all (turns-of path) n xs (v, ys)
   at-record r v ys h q = next nodes rows le unit task c whole all (turns-of path) n xs so (v, ys) (depth ∙ sym h ∙ ap (λ z. Some (z, ys)) q)
 
-  pub at-end : _≡_ {A = Option (TreeRecord × List ℤ)} None (first-record nodes (rows + length slice) xs) → _≡_ {A = Answer} (Ok tt) all
+  pub at-end : _≡_ {A = Option (TreeRecord × List ℤ)} None (first-record nodes (rows + path .depth) xs) → _≡_ {A = Answer} (Ok tt) all
   at-end h = over nodes rows le unit task c whole all (turns-of path) n xs so (depth ∙ sym h)
 
 -- the same splits, told otherwise

@@ -34,11 +34,7 @@ pub(crate) fn judge_list<T: Tariff>(
     let mut path = Path::new();
     let mut rest = list;
     let mut count = 0;
-    while let Some((record, next)) = read_record(
-        rest,
-        nodes,
-        task.rows.len() + path.turns().len(),
-    ) {
+    while let Some((record, next)) = read_record(rest, nodes, task.rows.len() + path.depth) {
         match record {
             Record::Split { edge, most } => {
                 path.push(edge.unsigned_abs() as usize, most.unsigned_abs());

@@ -29,19 +29,19 @@ loop-record-holds g c =
 pub push-requires : need.push-requires
 push-requires g c κs =
     let f : SFits w32 (c .in-Split .most) = search needs in
-    let at = at-record (c .loop-record .path) (c .loop-record .inv .1) (c .turns .result .now) (c .turns .ensures .value) (c .in-Some .record) (split-record (c .in-Split .edge) (c .in-Split .most)) (c .in-Some .next .now)
+    let at = at-record (c .loop-record .path) (c .loop-record .inv .1) (c .in-Some .record) (split-record (c .in-Split .edge) (c .in-Split .most)) (c .in-Some .next .now)
     (c .in-Some .ensures tt) (ap held (c .in-Split .is)) in
     record { few = simp (simp toZ-ofZ at (c .unsigned-abs-in-Split .ensures .value)) (at .few); room = at .room }
 
 pub judge-leaf-requires : need.judge-leaf-requires
 judge-leaf-requires g c κs =
     let f : SFits w32 (c .in-Leaf .scale) = search needs in
-    let at = at-record (c .loop-record .path) (c .loop-record .inv .1) (c .turns .result .now) (c .turns .ensures .value) (c .in-Some .record)
+    let at = at-record (c .loop-record .path) (c .loop-record .inv .1) (c .in-Some .record)
     (leaf-record (c .in-Leaf .scale) (c .in-Leaf .potentials .now) (c .in-Leaf .multipliers .now)) (c .in-Some .next .now)
     (c .in-Some .ensures tt) (ap held (c .in-Leaf .is)) in
     record {
       sized = record {
-        few = omega (arith, c .turns-in-Leaf .ensures .few, c .pre .few);
+        few = omega (arith, c .turns .ensures .few, c .pre .few);
         scale = simp (simp toZ-ofZ at (c .unsigned-abs-in-Leaf .ensures .value)) (at .fits .scale);
         potentials = at .fits .potentials;
         multipliers = at .fits .multipliers;
@@ -51,12 +51,12 @@ judge-leaf-requires g c κs =
 
 pub returns-in-Break-judge-leaf : need.returns-in-Break-judge-leaf
 returns-in-Break-judge-leaf g c t fits is =
-    let at = at-record (c .loop-record .path) (c .loop-record .inv .1) (c .turns .result .now) (c .turns .ensures .value) (c .in-Some .record)
+    let at = at-record (c .loop-record .path) (c .loop-record .inv .1) (c .in-Some .record)
     (leaf-record (c .in-Leaf .scale) (c .in-Leaf .potentials .now) (c .in-Leaf .multipliers .now)) (c .in-Some .next .now)
     (c .in-Some .ensures tt) (ap held (c .in-Leaf .is)) in
     let f : SFits w32 (c .in-Leaf .scale) = search needs in
-    let same = leaf-same (g .T·Tariff .le (c .args .tariff .now)) (g .T·Tariff .unit (c .args .tariff .now)) (task-of (c .args .task)) (pair (c .args .claimed)) (c .loop-record .path) (c .turns-in-Leaf .result .now)
-    (c .loop-record .count) (c .unsigned-abs-in-Leaf .result) (c .in-Leaf .scale) (c .in-Leaf .potentials .now) (c .in-Leaf .multipliers .now) (c .turns-in-Leaf .ensures .value)
+    let same = leaf-same (g .T·Tariff .le (c .args .tariff .now)) (g .T·Tariff .unit (c .args .tariff .now)) (task-of (c .args .task)) (pair (c .args .claimed)) (c .loop-record .path) (c .turns .result .now)
+    (c .loop-record .count) (c .unsigned-abs-in-Leaf .result) (c .in-Leaf .scale) (c .in-Leaf .potentials .now) (c .in-Leaf .multipliers .now) (c .turns .ensures .value)
     (simp toZ-ofZ at (c .unsigned-abs-in-Leaf .ensures .value)) in
     let p = err-from-errBy (c .from-residual .result) (c .from-residual .ensures .1) in
     let found = at .failed (c .in-Break-judge-leaf .field-0 .0) (same ∙ sym (c .in-Break-judge-leaf .ensures tt)) in
@@ -68,7 +68,7 @@ pub loop-record-again-in-Split : need.loop-record-again-in-Split
 loop-record-again-in-Split g c =
     let f : SFits w32 (c .in-Split .most) = search needs in
     let e : SFits w32 (c .in-Split .edge) = search needs in
-    let at = at-record (c .loop-record .path) (c .loop-record .inv .1) (c .turns .result .now) (c .turns .ensures .value) (c .in-Some .record) (split-record (c .in-Split .edge) (c .in-Split .most)) (c .in-Some .next .now)
+    let at = at-record (c .loop-record .path) (c .loop-record .inv .1) (c .in-Some .record) (split-record (c .in-Split .edge) (c .in-Split .most)) (c .in-Some .next .now)
     (c .in-Some .ensures tt) (ap held (c .in-Split .is)) in
     let a : c .unsigned-abs .result ≡ natAbs (c .in-Split .edge) = simp toZ-ofZ at (c .unsigned-abs .ensures .value) in
     let b : c .unsigned-abs-in-Split .result ≡ natAbs (c .in-Split .most) = simp toZ-ofZ at (c .unsigned-abs-in-Split .ensures .value) in
@@ -76,23 +76,23 @@ loop-record-again-in-Split g c =
 
 pub loop-record-less : need.loop-record-less
 loop-record-less g c =
-    at-record (c .loop-record .path) (c .loop-record .inv .1) (c .turns .result .now) (c .turns .ensures .value) (c .in-Some .record)
+    at-record (c .loop-record .path) (c .loop-record .inv .1) (c .in-Some .record)
     (leaf-record (c .in-Leaf .scale) (c .in-Leaf .potentials .now) (c .in-Leaf .multipliers .now)) (c .in-Some .next .now)
     (c .in-Some .ensures tt) (ap held (c .in-Leaf .is)) .shorter
 
 pub loop-record-again : need.loop-record-again
 loop-record-again g c =
-    let at = at-record (c .loop-record .path) (c .loop-record .inv .1) (c .turns .result .now) (c .turns .ensures .value) (c .in-Some .record)
+    let at = at-record (c .loop-record .path) (c .loop-record .inv .1) (c .in-Some .record)
     (leaf-record (c .in-Leaf .scale) (c .in-Leaf .potentials .now) (c .in-Leaf .multipliers .now)) (c .in-Some .next .now)
     (c .in-Some .ensures tt) (ap held (c .in-Leaf .is)) in
     let f : SFits w32 (c .in-Leaf .scale) = search needs in
-    let same = leaf-same (g .T·Tariff .le (c .args .tariff .now)) (g .T·Tariff .unit (c .args .tariff .now)) (task-of (c .args .task)) (pair (c .args .claimed)) (c .loop-record .path) (c .turns-in-Leaf .result .now)
-    (c .loop-record .count) (c .unsigned-abs-in-Leaf .result) (c .in-Leaf .scale) (c .in-Leaf .potentials .now) (c .in-Leaf .multipliers .now) (c .turns-in-Leaf .ensures .value)
+    let same = leaf-same (g .T·Tariff .le (c .args .tariff .now)) (g .T·Tariff .unit (c .args .tariff .now)) (task-of (c .args .task)) (pair (c .args .claimed)) (c .loop-record .path) (c .turns .result .now)
+    (c .loop-record .count) (c .unsigned-abs-in-Leaf .result) (c .in-Leaf .scale) (c .in-Leaf .potentials .now) (c .in-Leaf .multipliers .now) (c .turns .ensures .value)
     (simp toZ-ofZ at (c .unsigned-abs-in-Leaf .ensures .value)) in
     (c .loop-record .inv .0, moved _ (turns-of (c .onward .last .self)) (sym (c .onward .ensures)) (at .passed (same ∙ sym (c .in-Continue-judge-leaf .ensures tt))))
 
 pub returns : need.returns
 returns g c t fits is =
-    at-end (c .loop-record .path) (c .loop-record .inv .1) (c .turns .result .now) (c .turns .ensures .value) (c .in-rest .ensures tt)
+    at-end (c .loop-record .path) (c .loop-record .inv .1) (c .in-rest .ensures tt)
     ∙ ap (tree-answer (g .T·Tariff .le (c .args .tariff .now)) (g .T·Tariff .unit (c .args .tariff .now)) (task-of (c .args .task)) (pair (c .args .claimed)))
     (one-spelling 12 (c .args .nodes) (length (c .args .task .rows .now)) (c .loop-record .inv .0 .of) t (c .args .list .now) (c .loop-record .inv .0 .fits) fits (c .loop-record .inv .0 .is) is)
