@@ -1,12 +1,13 @@
 -- What an accepted claim and an accepted void claim say.
 use mathlib.Core.Bool.{Bool, true, false}
 use mathlib.Core.List.{List}
-use mathlib.Core.Path.{_≡_, refl, sym, subst}
+use mathlib.Core.Path.{_≡_, refl, sym, ap, subst, _∙_}
 use Prim.Native.Nat.{ℕ}
 use native.Mathlib.Omega.{arith}
 use lib.IntN.{ℤ, pos}
 use Rattle.std.proofs.shelf.Ways.{tells}
 use Rattle.std.specs.Vec.{made}
+use Rattle.std.specs.shelf.Lists.{All, sum}
 use Rattle.std.specs.declared.result.Result.{Result}
 use Rattle.std.specs.declared.result.Result.the-variants.{Ok, Err}
 use Rattle.price.specs.Laws.{Laws}
@@ -16,18 +17,22 @@ use Rattle.price.specs.declared.prices.Price.{Price}
 use Rattle.price.specs.declared.refusals.Refusal.{Refusal}
 use Rattle.task.specs.EndsAnswer.{ends-answer}
 use Rattle.task.specs.NewRows.{mapped}
-use Rattle.task.specs.Rows.{Row}
+use Rattle.task.specs.Rows.{Row, Keeps}
 use Rattle.task.specs.Sealing.{Ends}
 use Rattle.task.specs.Sound.{Sound}
 use Rattle.task.specs.Turns.{price-of}
 use Rattle.task.specs.TurnsAnswer.{turns-answer}
 use Rattle.task.specs.declared.edges.Edge.{Edge}
 use Rattle.task.proofs.Checks.{answers, exactly as exactly-sound}
+use Rattle.task.proofs.Flows.{claims}
 use Rattle.task.proofs.Seals.{answer-says, exactly}
 use Rattle.certificate.specs.Soundness.{NoneDearer}
 use Rattle.certificate.specs.Tasks.{Answer}
 use Rattle.certificate.specs.Verdicts as verdicts
 use Rattle.certificate.proofs.Proves.{judged, price-sound, void-sound}
+use Rattle.walk.specs.Rule.{next}
+use Rattle.walk.specs.Walks.{walk}
+use Rattle.walk.proofs.Rule.{walk-stands}
 use Rattle.judge.specs.Claiming.{Accepted, Voided, task-between, claim-answer, claim-on, void-answer}
 use Rattle.judge.specs.Drafting.{and-then}
 use Rattle.judge.specs.Stages.{answers-ends, ends-hold}
@@ -56,13 +61,19 @@ module _ (le : Pair → Pair → Bool) (unit : Pair) (laws : Laws le unit) (es :
   between ts xs s e p ends is =
       let task = task-between es rows s e in
       let passed = both (turns-answer es rows s e ts) (verdicts.price-answer le unit task (price-of es ts) xs) (price-of es ts) p is in
+      let sound = exactly-sound es rows s e ts (turns-answer es rows s e ts) (answers es rows s e ts (turns-answer es rows s e ts) refl) .0 (passed .0) in
       let none-dearer = price-sound le unit task (price-of es ts) (pos 1000) xs laws _ (judged le unit task (price-of es ts) (pos 1000) xs) (passed .1) (record { start = ends .start; end = ends .end }) in
+      let whole = walk-stands es s e ts ends (claims es rows s e ts sound ends) .whole in
       record {
         start = s;
         end = e;
         ends = ends;
-        sound = exactly-sound es rows s e ts (turns-answer es rows s e ts) (answers es rows s e ts (turns-answer es rows s e ts) refl) .0 (passed .0);
+        sound = sound;
         price = sym (passed .2);
+        run = walk es (next es ts e) (sum ts) ts s;
+        keeps = record { is-run = whole .is-run; keeps = subst (λ turns. All (Keeps es turns) rows) (sym (whole .exact)) (sound .keeps) };
+        claimed = whole .exact;
+        has-price = ap (price-of es) (whole .exact) ∙ passed .2;
         none-dearer = subst (NoneDearer le task) (passed .2) none-dearer;
       }
 

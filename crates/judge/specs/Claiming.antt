@@ -16,10 +16,10 @@ use Rattle.price.specs.declared.refusals.Refusal.{Refusal}
 use Rattle.price.specs.declared.refusals.Refusal.the-variants.{NotSealed}
 use Rattle.std.specs.declared.result.Result.{Result}
 use Rattle.std.specs.declared.result.Result.the-variants.{Ok, Err}
-use Rattle.task.specs.Rows.{Row}
+use Rattle.task.specs.Rows.{Row, KeepsAll}
 use Rattle.task.specs.Sealing.{Ends}
 use Rattle.task.specs.Sound.{Sound}
-use Rattle.task.specs.Turns.{price-of}
+use Rattle.task.specs.Turns.{price-of, run-price, turns-in}
 use Rattle.task.specs.TurnsAnswer.{turns-answer}
 use Rattle.task.specs.declared.edges.Edge.{Edge}
 
@@ -27,13 +27,17 @@ use Rattle.task.specs.declared.edges.Edge.{Edge}
 abbrev pub task-between : List Edge → List Row → ℕ → ℕ → Task
 task-between es rows start end = record { edges = es; rows = rows; start = start; end = end }
 
--- an accepted claim: sound turns between the two ends, whose price no run that keeps every row exceeds
+-- an accepted claim: sound turns between the two ends; some run that keeps every row has them and their price, and none that keeps every row is dearer
 pub record Accepted (le : Pair → Pair → Bool) (es : List Edge) (rows : List Row) (ts : List ℕ) (c : Pair) : Type 0 where
   pub start : ℕ
   pub end : ℕ
   pub ends : Ends es start end
   pub sound : Sound es rows start end ts
   pub price : c ≡ price-of es ts
+  pub run : List ℕ
+  pub keeps : KeepsAll es rows run
+  pub claimed : turns-in es run ≡ ts
+  pub has-price : run-price es run ≡ c
   pub none-dearer : NoneDearer le (task-between es rows start end) c
 
 -- an accepted void claim: two ends, and no run between them keeps every row

@@ -9,6 +9,6 @@ mod Repeated
 mod Padded
 mod Rests
 mod ByEdges
-mod Flows
+pub mod Flows
 pub mod Checks
 mod Costs
