@@ -14,7 +14,7 @@ use Rattle.price.specs.declared.refusals.Refusal.{Refusal}
 use Rattle.certificate.specs.Lines.{leaf-of}
 use Rattle.certificate.specs.Reading.{first-record}
 use Rattle.certificate.specs.Ready.{Small, Bounded, Judgeable}
-use Rattle.certificate.specs.Splits.{Turn, first-of, second-of, lines-at, onward}
+use Rattle.certificate.specs.Splits.{Branch, first-of, second-of, lines-at, onward}
 use Rattle.certificate.specs.Tasks.{Task, Answer}
 use Rattle.certificate.specs.Trees.{Tree, leaf, split, TreeRecord, leaf-record, split-record, spelled, Fits}
 use Rattle.certificate.specs.Verdicts.{before, leaf-answer, leaves-answer, tree-answer}
@@ -24,7 +24,7 @@ use Rattle.certificate.proofs.Spellings.{never, some-same, leaf-whole}
 
 module _ (nodes rows : ℕ) where
   -- a leaf under these splits
-  pub record LeafFits (ts : List Turn) (d : ℤ) (ps ms : List ℤ) : Type 0 where
+  pub record LeafFits (ts : List Branch) (d : ℤ) (ps ms : List ℤ) : Type 0 where
     pub scale : natAbs d ≤ 1000
     pub node-pairs : length ps ≡ 2 * nodes
     pub row-pairs : length ms ≡ 2 * (rows + length ts)
@@ -32,17 +32,17 @@ module _ (nodes rows : ℕ) where
     pub multipliers : Small ms
 
   -- the list spells these records, of which the first stands under these splits
-  abbrev pub Ahead : List Turn → List TreeRecord → List ℤ → Type 0
+  abbrev pub Ahead : List Branch → List TreeRecord → List ℤ → Type 0
   Ahead ts [] xs = xs ≡ []
   Ahead ts (leaf-record d ps ms ∷ rs) xs = (rest : List ℤ) × (xs ≡ pos 0 ∷ d ∷ ((ps ++ ms) ++ rest)) × LeafFits ts d ps ms × Ahead (onward ts) rs rest
   Ahead ts (split-record e m ∷ rs) xs =
       (rest : List ℤ) × (xs ≡ pos 1 ∷ e ∷ m ∷ rest) × (length ts < 12) × (natAbs m ≤ 1048575) × Ahead (ts ++ (first-of (natAbs e) (natAbs m) ∷ [])) rs rest
 
-  pushed : (ts : List Turn) (t : Turn) → rows + length ts + 1 ≡ rows + length (ts ++ (t ∷ []))
+  pushed : (ts : List Branch) (t : Branch) → rows + length ts + 1 ≡ rows + length (ts ++ (t ∷ []))
   pushed ts t = simp length-append (omega arith)
 
   -- a tree ahead, and then what is ahead behind it
-  ahead : (t : Tree) (k : ℕ) (ts : List Turn) (rs : List TreeRecord) (rest : List ℤ) → Fits k nodes (rows + length ts) t → Bounded t → length ts + k ≤ 12 →
+  ahead : (t : Tree) (k : ℕ) (ts : List Branch) (rs : List TreeRecord) (rest : List ℤ) → Fits k nodes (rows + length ts) t → Bounded t → length ts + k ≤ 12 →
       Ahead (onward ts) rs rest → Ahead ts (records t ++ rs) (spelled t ++ rest)
   ahead (leaf d ps ms) none ts rs rest f b h then =
       (rest, refl, record { scale = b .0; node-pairs = f .0; row-pairs = f .1; potentials = b .1; multipliers = b .2 }, then)
@@ -50,8 +50,8 @@ module _ (nodes rows : ℕ) where
       (rest, refl, record { scale = b .0; node-pairs = f .0; row-pairs = f .1; potentials = b .1; multipliers = b .2 }, then)
   ahead (split e m s t) none ts rs rest f b h then = absurd f
   ahead (split e m s t) (suc k) ts rs rest f b h then =
-      let low : Turn = first-of (natAbs e) (natAbs m) in
-      let high : Turn = second-of (natAbs e) (natAbs m) in
+      let low : Branch = first-of (natAbs e) (natAbs m) in
+      let high : Branch = second-of (natAbs e) (natAbs m) in
       let down : length (ts ++ (low ∷ [])) + k ≤ 12 = simp length-append (omega arith) in
       let up : length (ts ++ (high ∷ [])) + k ≤ 12 = simp length-append (omega arith) in
       let last : Ahead (ts ++ (high ∷ [])) (records t ++ rs) (spelled t ++ rest) =
@@ -69,29 +69,29 @@ module _ (nodes rows : ℕ) where
 
   module _ (le : Pair → Pair → Bool) (unit : Pair) (task : Task) (c : Pair) (whole : ℕ) (all : Answer) where
     -- n leaves are judged, and the answer of the whole is that of what is ahead
-    pub record Standing (ts : List Turn) (n : ℕ) (xs : List ℤ) : Type 0 where
+    pub record Standing (ts : List Branch) (n : ℕ) (xs : List ℤ) : Type 0 where
       pub of : List TreeRecord
       pub spelled-by : Ahead ts of xs
       pub same : leaves-answer le unit task c n (left task ts of) ≡ all
       pub counted : n + length xs ≤ whole
 
-    pub record AtLeaf (ts : List Turn) (n : ℕ) (xs : List ℤ) (d : ℤ) (ps ms ys : List ℤ) : Type 0 where
+    pub record AtLeaf (ts : List Branch) (n : ℕ) (xs : List ℤ) (d : ℤ) (ps ms ys : List ℤ) : Type 0 where
       pub fits : LeafFits ts d ps ms
       pub shorter : length ys < length xs
       pub failed : (e : Refusal) → leaf-answer le unit task c (lines-at task ts) (leaf-of d ps ms) n ≡ Err e → all ≡ Err e
       pub passed : leaf-answer le unit task c (lines-at task ts) (leaf-of d ps ms) n ≡ Ok tt → Standing (onward ts) (n + 1) ys
 
-    pub record AtSplit (ts : List Turn) (n : ℕ) (xs : List ℤ) (x y : ℤ) (ys : List ℤ) : Type 0 where
+    pub record AtSplit (ts : List Branch) (n : ℕ) (xs : List ℤ) (x y : ℤ) (ys : List ℤ) : Type 0 where
       pub room : length ts < 12
       pub few : natAbs y ≤ 1048575
       pub shorter : length ys < length xs
       pub passed : Standing (ts ++ (first-of (natAbs x) (natAbs y) ∷ [])) n ys
 
-    abbrev pub At : List Turn → ℕ → List ℤ → TreeRecord × List ℤ → Type 0
+    abbrev pub At : List Branch → ℕ → List ℤ → TreeRecord × List ℤ → Type 0
     At ts n xs (leaf-record d ps ms, ys) = AtLeaf ts n xs d ps ms ys
     At ts n xs (split-record x y, ys) = AtSplit ts n xs x y ys
 
-    at-leaf : (ts : List Turn) (n : ℕ) (xs : List ℤ) (rs : List TreeRecord) → n + length xs ≤ whole → (d : ℤ) (ps ms ys : List ℤ) →
+    at-leaf : (ts : List Branch) (n : ℕ) (xs : List ℤ) (rs : List TreeRecord) → n + length xs ≤ whole → (d : ℤ) (ps ms ys : List ℤ) →
         before (leaf-answer le unit task c (lines-at task ts) (leaf-of d ps ms) n) (leaves-answer le unit task c (n + 1) (left task (onward ts) rs)) ≡ all →
         xs ≡ pos 0 ∷ d ∷ ((ps ++ ms) ++ ys) → LeafFits ts d ps ms → Ahead (onward ts) rs ys → AtLeaf ts n xs d ps ms ys
     at-leaf ts n xs rs h d ps ms ys same e f then =
@@ -108,12 +108,12 @@ module _ (nodes rows : ℕ) where
           };
         }
 
-    first-is-leaf : (ts : List Turn) (xs : List ℤ) (d : ℤ) (ps ms ys : List ℤ) → xs ≡ pos 0 ∷ d ∷ ((ps ++ ms) ++ ys) → LeafFits ts d ps ms →
+    first-is-leaf : (ts : List Branch) (xs : List ℤ) (d : ℤ) (ps ms ys : List ℤ) → xs ≡ pos 0 ∷ d ∷ ((ps ++ ms) ++ ys) → LeafFits ts d ps ms →
         first-record nodes (rows + length ts) xs ≡ Some (leaf-record d ps ms, ys)
     first-is-leaf ts xs d ps ms ys e f = ap (first-record nodes (rows + length ts)) e ∙ leaf-whole nodes (rows + length ts) d ps ms ys (f .node-pairs) (f .row-pairs)
 
     -- the record in front
-    pub next : (ts : List Turn) (n : ℕ) (xs : List ℤ) → Standing ts n xs → (w : TreeRecord × List ℤ) → first-record nodes (rows + length ts) xs ≡ Some w → At ts n xs w
+    pub next : (ts : List Branch) (n : ℕ) (xs : List ℤ) → Standing ts n xs → (w : TreeRecord × List ℤ) → first-record nodes (rows + length ts) xs ≡ Some w → At ts n xs w
     next ts n xs so w r = go (so .of) (so .spelled-by) (so .same)
       where
         go : (rs : List TreeRecord) → Ahead ts rs xs → leaves-answer le unit task c n (left task ts rs) ≡ all → At ts n xs w
@@ -130,7 +130,7 @@ module _ (nodes rows : ℕ) where
             })
 
     -- nothing is in front
-    pub over : (ts : List Turn) (n : ℕ) (xs : List ℤ) → Standing ts n xs → first-record nodes (rows + length ts) xs ≡ None → Ok tt ≡ all
+    pub over : (ts : List Branch) (n : ℕ) (xs : List ℤ) → Standing ts n xs → first-record nodes (rows + length ts) xs ≡ None → Ok tt ≡ all
     over ts n xs so r = go (so .of) (so .spelled-by) (so .same)
       where
         go : (rs : List TreeRecord) → Ahead ts rs xs → leaves-answer le unit task c n (left task ts rs) ≡ all → Ok tt ≡ all

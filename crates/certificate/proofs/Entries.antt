@@ -9,17 +9,17 @@ use lib.ListN.{length, getD}
 use Rattle.std.proofs.shelf.Lists.{getD-append-left, getD-append-right, getD-map, length-map}
 use Rattle.certificate.specs.declared.cases.Column.{Column}
 use Rattle.task.specs.declared.rows.Row.{Row}
-use Rattle.certificate.specs.declared.turns.Turn.{Turn}
+use Rattle.certificate.specs.declared.branches.Branch.{Branch}
 use Rattle.task.specs.NewRows.{row-of}
-use Rattle.certificate.specs.Splits.{turn-of}
-use Rattle.certificate.specs.Columns.{row-entry, turn-entry, entries, charged}
+use Rattle.certificate.specs.Splits.{branch-of}
+use Rattle.certificate.specs.Columns.{row-entry, branch-entry, entries, charged}
 
-module _ (column : Column) (rows : List Row) (path : List Turn) (i : ℕ) where
+module _ (column : Column) (rows : List Row) (path : List Branch) (i : ℕ) where
   of-row : Row → ℤ
   of-row r = row-entry column (row-of r)
 
-  of-turn : Turn → ℤ
-  of-turn t = turn-entry column (turn-of t)
+  of-turn : Branch → ℤ
+  of-turn t = branch-entry column (branch-of t)
 
   pub entry-row : (r : Row) → i < length rows → r ≡ getD rows i r → getD (entries column rows path) i (pos 0) ≡ row-entry column (row-of r)
   unfolding of-row of-turn
@@ -27,8 +27,8 @@ module _ (column : Column) (rows : List Row) (path : List Turn) (i : ℕ) where
       let long : i < length (map of-row rows) = rw length-map l in
       getD-append-left (map of-row rows) (map of-turn path) (pos 0) i long ∙ getD-map of-row rows i r (pos 0) l ∙ ap of-row (sym e)
 
-  pub entry-turn : (t : Turn) → length rows ≤ i → i < length rows + length path → t ≡ getD path (i - length rows) t →
-      getD (entries column rows path) i (pos 0) ≡ turn-entry column (turn-of t)
+  pub entry-turn : (t : Branch) → length rows ≤ i → i < length rows + length path → t ≡ getD path (i - length rows) t →
+      getD (entries column rows path) i (pos 0) ≡ branch-entry column (branch-of t)
   unfolding of-row of-turn
   entry-turn t l m e =
       getD-append-right (map of-row rows) (map of-turn path) (length rows) i (pos 0) (length-map rows of-row) l

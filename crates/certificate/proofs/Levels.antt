@@ -16,38 +16,38 @@ use Rattle.task.specs.Rows as rows
 use Rattle.certificate.specs.declared.cases.Column.{Column}
 use Rattle.certificate.specs.declared.cases.Column.the-variants.{Edge, Limit}
 use Rattle.certificate.specs.declared.cases.Leaf.{Leaf}
-use Rattle.certificate.specs.declared.turns.Turn.{Turn}
-use Rattle.certificate.specs.Columns.{row-entry, turn-entry, entries, level-of}
+use Rattle.certificate.specs.declared.branches.Branch.{Branch}
+use Rattle.certificate.specs.Columns.{row-entry, branch-entry, entries, level-of}
 use Rattle.certificate.specs.Held.{leaf-held}
 use Rattle.certificate.specs.Lines.{Line, case-line, charge, potential}
 use Rattle.certificate.specs.Splits as splits
-use Rattle.certificate.specs.Splits.{path-line, turn-of}
+use Rattle.certificate.specs.Splits.{path-line, branch-of}
 use Rattle.certificate.proofs.Charges.{charge-is, pairs-at}
 
 module _ (es : List task.Edge) where
-  table : List Row → List Turn → List Line
-  table rows path = map (case-line es) (map row-of rows) ++ map path-line (map turn-of path)
+  table : List Row → List Branch → List Line
+  table rows path = map (case-line es) (map row-of rows) ++ map path-line (map branch-of path)
 
-  pub lines-count : (rows : List Row) (path : List Turn) → length (map (case-line es) (map row-of rows) ++ map path-line (map turn-of path)) ≡ length rows + length path
+  pub lines-count : (rows : List Row) (path : List Branch) → length (map (case-line es) (map row-of rows) ++ map path-line (map branch-of path)) ≡ length rows + length path
   lines-count [] [] = refl
   lines-count [] (t ∷ ts) = let rest = lines-count [] ts in omega arith
   lines-count (r ∷ rs) ts = let rest = lines-count rs ts in omega arith
 
-  column-is : (f : Line → ℤ) (column : Column) → ((r : rows.Row) → f (case-line es r) ≡ row-entry column r) → ((t : splits.Turn) → f (path-line t) ≡ turn-entry column t) →
-      (rows : List Row) (path : List Turn) → map f (table rows path) ≡ entries column rows path
+  column-is : (f : Line → ℤ) (column : Column) → ((r : rows.Row) → f (case-line es r) ≡ row-entry column r) → ((t : splits.Branch) → f (path-line t) ≡ branch-entry column t) →
+      (rows : List Row) (path : List Branch) → map f (table rows path) ≡ entries column rows path
   unfolding table
   column-is f column p q [] [] = refl
-  column-is f column p q [] (t ∷ ts) = λ i. q (turn-of t) i ∷ column-is f column p q [] ts i
+  column-is f column p q [] (t ∷ ts) = λ i. q (branch-of t) i ∷ column-is f column p q [] ts i
   column-is f column p q (r ∷ rs) ts = λ i. p (row-of r) i ∷ column-is f column p q rs ts i
 
-  module _ (l : Leaf) (rows : List Row) (path : List Turn) (from to : ℕ) where
+  module _ (l : Leaf) (rows : List Row) (path : List Branch) (from to : ℕ) where
     -- one part of the level
     abbrev part-of : Column → ℕ → ℤ
     part-of column part = level-of (entries column rows path) (now (l .potentials)) (now (l .multipliers)) from to part (length rows + length path)
 
     -- a difference of potentials and a charge
     abbrev level : (Line → ℤ) → Pair
-    level f = potential (leaf-held l) from ⊖ potential (leaf-held l) to ⊕ charge f (map (case-line es) (map row-of rows) ++ map path-line (map turn-of path)) (leaf-held l .multipliers)
+    level f = potential (leaf-held l) from ⊖ potential (leaf-held l) to ⊕ charge f (map (case-line es) (map row-of rows) ++ map path-line (map branch-of path)) (leaf-held l .multipliers)
 
     levels : (f : Line → ℤ) (column : Column) → map f (table rows path) ≡ entries column rows path → level f ≡ (part-of column 0, part-of column 1)
     unfolding table

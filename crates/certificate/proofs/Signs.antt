@@ -11,11 +11,11 @@ use Rattle.task.specs.declared.rows.Relation.{Relation}
 use Rattle.task.specs.declared.rows.Relation.the-variants.{Below, AtMost, Equal}
 use Rattle.task.specs.declared.rows.Row.{Row}
 use Rattle.task.specs.NewRows.{row-of}
-use Rattle.certificate.specs.declared.turns.Turn.{Turn}
+use Rattle.certificate.specs.declared.branches.Branch.{Branch}
 use Rattle.certificate.specs.Held.{is-equal, equal-at}
 use Rattle.certificate.specs.LeafTests.{sign-ok}
 use Rattle.certificate.specs.Lines.{at-most, at-least, case-line, no-line}
-use Rattle.certificate.specs.Splits.{path-line, turn-of}
+use Rattle.certificate.specs.Splits.{path-line, branch-of}
 
 pub equal-is : (rows : List Row) (i : ℕ) (r : Row) → i < length rows → equal-at rows i ≡ is-equal (getD rows i r .relation)
 equal-is [] i r h = absurd (not-suc-le-zero h)
@@ -37,8 +37,8 @@ module _ (le : Pair → Pair → Bool) (es : List Edge) (m : Pair) where
   of-turn true e n = refl
   of-turn false e n = refl
 
-  pub sign-of : (rows : List Row) (path : List Turn) (i : ℕ) →
-      sign-ok le (getD (map (case-line es) (map row-of rows) ++ map path-line (map turn-of path)) i no-line .relation) m ≡ cond (equal-at rows i) true (le zero m)
+  pub sign-of : (rows : List Row) (path : List Branch) (i : ℕ) →
+      sign-ok le (getD (map (case-line es) (map row-of rows) ++ map path-line (map branch-of path)) i no-line .relation) m ≡ cond (equal-at rows i) true (le zero m)
   sign-of [] [] i = refl
   sign-of [] (t ∷ ts) none = of-turn (t .second) (t .edge) (t .most)
   sign-of [] (t ∷ ts) (suc i) = sign-of [] ts i

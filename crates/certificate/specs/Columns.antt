@@ -8,21 +8,21 @@ use Rattle.task.specs.NewRows.{row-of}
 use Rattle.task.specs.Rows.{Row, coefficient}
 use Rattle.certificate.specs.declared.cases.Column.{Column}
 use Rattle.certificate.specs.declared.cases.Column.the-variants.{Edge, Limit}
-use Rattle.certificate.specs.declared.turns.Turn as turns
+use Rattle.certificate.specs.declared.branches.Branch as branches
 use Rattle.certificate.specs.Lines.{limit-of}
-use Rattle.certificate.specs.Splits.{Turn, path-line, turn-of}
+use Rattle.certificate.specs.Splits.{Branch, path-line, branch-of}
 
 abbrev pub row-entry : Column → Row → ℤ
 row-entry (Edge number block) row = coefficient row block
 row-entry Limit row = limit-of (row .relation) (row .k)
 
-abbrev pub turn-entry : Column → Turn → ℤ
-turn-entry (Edge number block) t = path-line t .of-edge number
-turn-entry Limit t = path-line t .limit
+abbrev pub branch-entry : Column → Branch → ℤ
+branch-entry (Edge number block) t = path-line t .of-edge number
+branch-entry Limit t = path-line t .limit
 
 -- a column from the top: the rows of the task, then those of the path
-abbrev pub entries : Column → List declared.Row → List turns.Turn → List ℤ
-entries column rows path = map (λ r. row-entry column (row-of r)) rows ++ map (λ t. turn-entry column (turn-of t)) path
+abbrev pub entries : Column → List declared.Row → List branches.Branch → List ℤ
+entries column rows path = map (λ r. row-entry column (row-of r)) rows ++ map (λ t. branch-entry column (branch-of t)) path
 
 -- one part of the first n entries times their multipliers, added up
 abbrev pub charged : List ℤ → List ℤ → ℕ → ℕ → ℤ

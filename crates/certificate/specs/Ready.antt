@@ -8,7 +8,7 @@ use denote.Ref.{now}
 use Rattle.price.specs.Ranges.{Within}
 use Rattle.certificate.specs.declared.cases.Leaf.{Leaf}
 use Rattle.certificate.specs.declared.cases.Task.{Task}
-use Rattle.certificate.specs.declared.turns.Turn.{Turn}
+use Rattle.certificate.specs.declared.branches.Branch.{Branch}
 use Rattle.certificate.specs.Trees.{Tree, leaf, split, spelled, Fits}
 
 -- each number is one that a potential or a multiplier may have
@@ -35,7 +35,7 @@ pub record Judgeable (nodes rows : ℕ) (xs : List ℤ) : Type 0 where
   pub is : spelled of ≡ xs
 
 -- a leaf that can be judged
-pub record Sized (task : Task) (splits : List Turn) (leaf : Leaf) : Type 0 where
+pub record Sized (task : Task) (splits : List Branch) (leaf : Leaf) : Type 0 where
   pub few : length (now (task .rows)) + length splits ≤ 36
   pub scale : leaf .scale ≤ 1000
   pub potentials : Small (now (leaf .potentials))

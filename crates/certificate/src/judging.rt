@@ -4,17 +4,17 @@ ghost use mathlib.Core.Path.{_≡_};
 ghost use Prim.Native.Nat.{_^_};
 ghost use Rattle.certificate.specs.Held.{leaf-held};
 ghost use Rattle.certificate.specs.Ready.{Sized};
-ghost use Rattle.certificate.specs.Splits.{lines-at, turn-of};
+ghost use Rattle.certificate.specs.Splits.{lines-at, branch-of};
 ghost use Rattle.certificate.specs.Tasks.{task-of};
 ghost use Rattle.certificate.specs.Verdicts.{edges-answer, leaf-answer, signs-answer};
 ghost use Rattle.price.specs.Prices.{pair};
 ghost use Rattle.price.specs.Ranges.{Both};
+use crate::branches::Branch;
 use crate::cases::Leaf;
 use crate::cases::Task;
 use crate::questions::bound_passes;
 use crate::questions::edge_passes;
 use crate::questions::sign_passes;
-use crate::turns::Turn;
 use price::Price;
 use price::Refusal;
 use price::Tariff;
@@ -23,12 +23,12 @@ use price::Tariff;
 fn ask_signs<T: Tariff>(
     tariff: &T,
     task: Task<'_>,
-    path: &[Turn],
+    path: &[Branch],
     leaf: Leaf<'_>,
     n: usize,
 ) -> Result<(), Refusal>
     requires { ⌜ Sized task (now path) leaf ⌝ }
-    ensures { λ r. ⌜ r ≡ signs-answer (le (now (tariff .entry))) (lines-at (task-of (task .entry)) (map turn-of (now (path .entry)))) (leaf-held (leaf .entry)) n ⌝ }
+    ensures { λ r. ⌜ r ≡ signs-answer (le (now (tariff .entry))) (lines-at (task-of (task .entry)) (map branch-of (now (path .entry)))) (leaf-held (leaf .entry)) n ⌝ }
 {
     let mut answer = Ok(());
     'rows: for row in 0..task.rows.len() + path.len() {
@@ -44,12 +44,12 @@ fn ask_signs<T: Tariff>(
 fn ask_edges<T: Tariff>(
     tariff: &T,
     task: Task<'_>,
-    path: &[Turn],
+    path: &[Branch],
     leaf: Leaf<'_>,
     n: usize,
 ) -> Result<(), Refusal>
     requires { ⌜ Sized task (now path) leaf ⌝ }
-    ensures { λ r. ⌜ r ≡ edges-answer (le (now (tariff .entry))) (task-of (task .entry)) (lines-at (task-of (task .entry)) (map turn-of (now (path .entry)))) (leaf-held (leaf .entry)) n ⌝ }
+    ensures { λ r. ⌜ r ≡ edges-answer (le (now (tariff .entry))) (task-of (task .entry)) (lines-at (task-of (task .entry)) (map branch-of (now (path .entry)))) (leaf-held (leaf .entry)) n ⌝ }
 {
     let mut answer = Ok(());
     'edges: for edge in 0..task.edges.len() {
@@ -66,13 +66,13 @@ pub(crate) fn judge_leaf<T: Tariff>(
     tariff: &T,
     task: Task<'_>,
     claimed: Price,
-    path: &[Turn],
+    path: &[Branch],
     leaf: Leaf<'_>,
     n: usize,
 ) -> Result<(), Refusal>
     requires sized { ⌜ Sized task (now path) leaf ⌝ }
     requires small { ⌜ Both (2 ^ 42) (pair claimed) ⌝ }
-    ensures { λ r. ⌜ r ≡ leaf-answer (le (now (tariff .entry))) (unit (now (tariff .entry))) (task-of (task .entry)) (pair claimed) (lines-at (task-of (task .entry)) (map turn-of (now (path .entry)))) (leaf-held (leaf .entry)) n ⌝ }
+    ensures { λ r. ⌜ r ≡ leaf-answer (le (now (tariff .entry))) (unit (now (tariff .entry))) (task-of (task .entry)) (pair claimed) (lines-at (task-of (task .entry)) (map branch-of (now (path .entry)))) (leaf-held (leaf .entry)) n ⌝ }
 {
     ask_signs(tariff, task, path, leaf, n)?;
     ask_edges(tariff, task, path, leaf, n)?;

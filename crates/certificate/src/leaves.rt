@@ -7,18 +7,18 @@ ghost use Rattle.certificate.specs.Columns.{entries, level-of};
 ghost use Rattle.certificate.specs.Held.{leaf-held};
 ghost use Rattle.certificate.specs.Lines.{allowance as allowance′, bound as bound′};
 ghost use Rattle.certificate.specs.Ready.{Sized};
-ghost use Rattle.certificate.specs.Splits.{lines-at, turn-of};
+ghost use Rattle.certificate.specs.Splits.{lines-at, branch-of};
 ghost use Rattle.certificate.specs.Tasks.{task-of};
 ghost use Rattle.price.specs.Prices.{pair};
 ghost use Rattle.price.specs.Ranges.{Part};
 ghost use Rattle.task.specs.Graph.{edge-at};
+use crate::branches::Branch;
 use crate::cases::Column;
 use crate::cases::Leaf;
 use crate::cases::Task;
 use crate::prices::price_of;
 use crate::sums::charge;
 use crate::sums::number;
-use crate::turns::Turn;
 use price::Price;
 
 const CYCLES: usize = 0;
@@ -28,7 +28,7 @@ const READS: usize = 1;
 // One part of a difference of potentials and of what the rows charge.
 fn level(
     task: Task<'_>,
-    path: &[Turn],
+    path: &[Branch],
     leaf: Leaf<'_>,
     from: u8,
     to: u8,
@@ -46,10 +46,10 @@ fn level(
 }
 
 // What an edge may cost.
-pub(crate) fn allowance(task: Task<'_>, path: &[Turn], leaf: Leaf<'_>, i: usize) -> Price
+pub(crate) fn allowance(task: Task<'_>, path: &[Branch], leaf: Leaf<'_>, i: usize) -> Price
     requires sized { ⌜ Sized task (now path) leaf ⌝ }
     requires known { ⌜ i < length (now (task .edges)) ⌝ }
-    ensures { λ r. ⌜ pair r ≡ allowance′ (lines-at (task-of (task .entry)) (map turn-of (now (path .entry)))) (leaf-held (leaf .entry)) i (edge-at (now (task .entry .edges)) i) ⌝ }
+    ensures { λ r. ⌜ pair r ≡ allowance′ (lines-at (task-of (task .entry)) (map branch-of (now (path .entry)))) (leaf-held (leaf .entry)) i (edge-at (now (task .entry .edges)) i) ⌝ }
 {
     let edge = task.edges[i];
     let column = Column::Edge {
@@ -63,9 +63,9 @@ pub(crate) fn allowance(task: Task<'_>, path: &[Turn], leaf: Leaf<'_>, i: usize)
 }
 
 // What a whole run may cost.
-pub(crate) fn bound(task: Task<'_>, path: &[Turn], leaf: Leaf<'_>) -> Price
+pub(crate) fn bound(task: Task<'_>, path: &[Branch], leaf: Leaf<'_>) -> Price
     requires { ⌜ Sized task (now path) leaf ⌝ }
-    ensures { λ r. ⌜ pair r ≡ bound′ (task .entry .start) (task .entry .end) (lines-at (task-of (task .entry)) (map turn-of (now (path .entry)))) (leaf-held (leaf .entry)) ⌝ }
+    ensures { λ r. ⌜ pair r ≡ bound′ (task .entry .start) (task .entry .end) (lines-at (task-of (task .entry)) (map branch-of (now (path .entry)))) (leaf-held (leaf .entry)) ⌝ }
 {
     let (start, end) = (task.start, task.end);
     price_of(

@@ -1,4 +1,5 @@
 // Judges a backing tree: whether it proves that no run of a task is dearer than claimed, or that there is none.
+mod branches;
 mod cases;
 mod judging;
 mod leaves;
@@ -10,7 +11,6 @@ mod ranges;
 mod reading;
 mod shapes;
 mod sums;
-mod turns;
 mod walking;
 
 pub use cases::Task;

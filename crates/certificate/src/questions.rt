@@ -7,12 +7,13 @@ ghost use Rattle.certificate.specs.Held.{equal-at, leaf-held};
 ghost use Rattle.certificate.specs.LeafTests.{bound-ok, edge-ok, row-ok};
 ghost use Rattle.certificate.specs.Lines.{no-line};
 ghost use Rattle.certificate.specs.Ready.{Sized};
-ghost use Rattle.certificate.specs.Splits.{lines-at, turn-of};
+ghost use Rattle.certificate.specs.Splits.{lines-at, branch-of};
 ghost use Rattle.certificate.specs.Tasks.{task-of};
 ghost use Rattle.price.specs.Pairs.{times};
 ghost use Rattle.price.specs.Prices.{pair};
 ghost use Rattle.price.specs.Ranges.{Both};
 ghost use Rattle.task.specs.Graph.{edge-at};
+use crate::branches::Branch;
 use crate::cases::Leaf;
 use crate::cases::Task;
 use crate::leaves::allowance;
@@ -21,7 +22,6 @@ use crate::prices::multiple;
 use crate::prices::price_of;
 use crate::prices::scaled_price;
 use crate::sums::number;
-use crate::turns::Turn;
 use price::Price;
 use price::Tariff;
 use task::Relation;
@@ -45,13 +45,13 @@ fn wants_equality(task: Task<'_>, i: usize) -> bool
 pub(crate) fn sign_passes<T: Tariff>(
     tariff: &T,
     task: Task<'_>,
-    path: &[Turn],
+    path: &[Branch],
     leaf: Leaf<'_>,
     i: usize,
 ) -> bool
     requires sized { ⌜ Sized task (now path) leaf ⌝ }
     requires known { ⌜ i < length (now (task .rows)) + length (now path) ⌝ }
-    ensures { λ r. ⌜ r ≡ row-ok (le (now (tariff .entry))) (leaf-held (leaf .entry)) i (getD (lines-at (task-of (task .entry)) (map turn-of (now (path .entry)))) i no-line) ⌝ }
+    ensures { λ r. ⌜ r ≡ row-ok (le (now (tariff .entry))) (leaf-held (leaf .entry)) i (getD (lines-at (task-of (task .entry)) (map branch-of (now (path .entry)))) i no-line) ⌝ }
 {
     if wants_equality(task, i) {
         return true;
@@ -65,13 +65,13 @@ pub(crate) fn sign_passes<T: Tariff>(
 pub(crate) fn edge_passes<T: Tariff>(
     tariff: &T,
     task: Task<'_>,
-    path: &[Turn],
+    path: &[Branch],
     leaf: Leaf<'_>,
     i: usize,
 ) -> bool
     requires sized { ⌜ Sized task (now path) leaf ⌝ }
     requires known { ⌜ i < length (now (task .edges)) ⌝ }
-    ensures { λ r. ⌜ r ≡ edge-ok (le (now (tariff .entry))) (lines-at (task-of (task .entry)) (map turn-of (now (path .entry)))) (leaf-held (leaf .entry)) i (edge-at (now (task .entry .edges)) i) ⌝ }
+    ensures { λ r. ⌜ r ≡ edge-ok (le (now (tariff .entry))) (lines-at (task-of (task .entry)) (map branch-of (now (path .entry)))) (leaf-held (leaf .entry)) i (edge-at (now (task .entry .edges)) i) ⌝ }
 {
     let price = scaled_price(leaf.scale, &task.edges[i]);
     tariff.compare(price, allowance(task, path, leaf, i))
@@ -82,12 +82,12 @@ pub(crate) fn bound_passes<T: Tariff>(
     tariff: &T,
     task: Task<'_>,
     claimed: Price,
-    path: &[Turn],
+    path: &[Branch],
     leaf: Leaf<'_>,
 ) -> bool
     requires sized { ⌜ Sized task (now path) leaf ⌝ }
     requires small { ⌜ Both (2 ^ 42) (pair claimed) ⌝ }
-    ensures { λ r. ⌜ r ≡ bound-ok (le (now (tariff .entry))) (unit (now (tariff .entry))) (task-of (task .entry)) (pair claimed) (lines-at (task-of (task .entry)) (map turn-of (now (path .entry)))) (leaf-held (leaf .entry)) ⌝ }
+    ensures { λ r. ⌜ r ≡ bound-ok (le (now (tariff .entry))) (unit (now (tariff .entry))) (task-of (task .entry)) (pair claimed) (lines-at (task-of (task .entry)) (map branch-of (now (path .entry)))) (leaf-held (leaf .entry)) ⌝ }
 {
     let step = tariff.unit();
     let past = multiple(

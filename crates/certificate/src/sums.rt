@@ -3,13 +3,13 @@ ghost use lib.IntN.{_*ℤ_, pos};
 ghost use lib.ListN.{getD, length};
 ghost use mathlib.Core.Path.{_≡_};
 ghost use Prim.Native.Nat.{_*_, _+_, _<_, _≤_};
-ghost use Rattle.certificate.specs.Columns.{charged, entries, row-entry, turn-entry};
+ghost use Rattle.certificate.specs.Columns.{charged, entries, row-entry, branch-entry};
 ghost use Rattle.certificate.specs.Ready.{Small};
-ghost use Rattle.certificate.specs.Splits.{turn-of};
+ghost use Rattle.certificate.specs.Splits.{branch-of};
 ghost use Rattle.price.specs.Ranges.{Within};
 ghost use Rattle.task.specs.NewRows.{row-of};
+use crate::branches::Branch;
 use crate::cases::Column;
-use crate::turns::Turn;
 use task::Relation;
 use task::Row;
 
@@ -34,10 +34,10 @@ fn row_entry(row: &Row, column: Column) -> i32
     }
 }
 
-impl Turn {
+impl Branch {
     // The entry of a row of the path.
     fn entry(self, column: Column) -> i32
-        ensures value { λ r. ⌜ r ≡ turn-entry column (turn-of self) ⌝ }
+        ensures value { λ r. ⌜ r ≡ branch-entry column (branch-of self) ⌝ }
         ensures small { λ r. ⌜ Within 1048577 r ⌝ }
     {
         match column {
@@ -62,7 +62,7 @@ impl Turn {
 }
 
 // The entry of a row: those of the task come first, then those of the path.
-fn entry(column: Column, rows: &[Row], path: &[Turn], i: usize) -> i32
+fn entry(column: Column, rows: &[Row], path: &[Branch], i: usize) -> i32
     requires { ⌜ i < length (now rows) + length (now path) ⌝ }
     ensures value { λ r. ⌜ r ≡ getD (entries column (now (rows .entry)) (now (path .entry))) i (pos 0) ⌝ }
     ensures small { λ r. ⌜ Within 1048577 r ⌝ }
@@ -87,7 +87,7 @@ fn product(entry: i32, part: i32) -> i64
 pub(crate) fn charge(
     column: Column,
     rows: &[Row],
-    path: &[Turn],
+    path: &[Branch],
     multipliers: &[i32],
     part: usize,
 ) -> i64

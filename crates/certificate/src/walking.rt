@@ -8,12 +8,12 @@ ghost use Rattle.certificate.specs.Trees.{Fits, Tree, spelled};
 ghost use Rattle.certificate.specs.Verdicts.{tree-answer};
 ghost use Rattle.price.specs.Prices.{pair};
 ghost use Rattle.price.specs.Ranges.{Both};
+use crate::branches::Path;
 use crate::cases::Leaf;
 use crate::cases::Task;
 use crate::judging::judge_leaf;
 use crate::reading::Record;
 use crate::reading::read_record;
-use crate::turns::Path;
 use price::Price;
 use price::Refusal;
 use price::Tariff;
@@ -49,7 +49,7 @@ pub(crate) fn judge_list<T: Tariff>(
                     potentials,
                     multipliers,
                 };
-                judge_leaf(tariff, task, claimed, path.turns(), leaf, count)?;
+                judge_leaf(tariff, task, claimed, path.branches(), leaf, count)?;
                 path.onward();
                 count += 1;
             }

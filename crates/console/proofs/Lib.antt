@@ -3,4 +3,4 @@ pub mod Naturals
 pub mod Integers
 pub mod Lengths
 pub mod Feeds
-pub mod Turns
+pub mod OneByOne

@@ -37,7 +37,7 @@ pub record Pushed (held : Contents) (text : List ℕ) (kept : Contents) (before 
   pub items : after ≡ cond (isOk r) (before ++ rendered answer) before
 
 -- one line, and what comes after it
-pub record Turn (held : Contents) (text bytes : List ℕ) (Rest : Contents → List ℕ → Type 0) : Type 0 where
+pub record OneLine (held : Contents) (text bytes : List ℕ) (Rest : Contents → List ℕ → Type 0) : Type 0 where
   pub answer : Said
   pub next : Contents
   pub more : List ℕ
@@ -48,7 +48,7 @@ pub record Turn (held : Contents) (text bytes : List ℕ) (Rest : Contents → L
 -- the replies of the lines, one after the other
 abbrev pub Replies : Contents → List (List ℕ) → List ℕ → Contents → Type 0
 Replies held [] bytes kept = (bytes ≡ []) × (kept ≡ held)
-Replies held (text ∷ texts) bytes kept = Turn held text bytes (λ next more. Replies next texts more kept)
+Replies held (text ∷ texts) bytes kept = OneLine held text bytes (λ next more. Replies next texts more kept)
 
 -- the first of the lines have their replies, and the others are left
 pub record Reached (held : Contents) (texts left : List (List ℕ)) (bytes : List ℕ) (kept : Contents) : Type 0 where

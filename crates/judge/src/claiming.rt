@@ -97,7 +97,7 @@ impl Case {
     }
 
     /// Judges a claim: these turns, backed by this tree. Answers their price, which is then certified:
-    /// the turns are sound, and no run that keeps every row is dearer.
+    /// some run that keeps every row has these turns and this price, and none that keeps every row is dearer.
     pub fn claim<T: Tariff>(
         &mut self,
         tariff: &T,

@@ -11,7 +11,7 @@ use Rattle.std.proofs.shelf.Results.{err-from-errBy}
 use Rattle.std.proofs.shelf.Signed.{toZ-ofZ}
 use Rattle.std.specs.declared.result.Result.the-variants.{Err}
 use Rattle.certificate.specs.Held.{held}
-use Rattle.certificate.specs.Splits.{first-of, turns-of}
+use Rattle.certificate.specs.Splits.{first-of, branches-of}
 use Rattle.certificate.specs.Tasks.{task-of}
 use Rattle.certificate.specs.Trees.{leaf-record, split-record}
 use Rattle.certificate.specs.Verdicts.{tree-answer}
@@ -24,7 +24,7 @@ pub loop-record-holds : need.loop-record-holds
 loop-record-holds g c =
     let start = begun (c .args .nodes) (length (c .args .task .rows .now)) (g .T·Tariff .le (c .args .tariff .now)) (g .T·Tariff .unit (c .args .tariff .now)) (task-of (c .args .task)) (pair (c .args .claimed))
     (c .args .list .now) (c .pre .spelled) in
-    (c .pre .spelled, moved [] (turns-of (c .new-path .result)) (sym (c .new-path .ensures)) start)
+    (c .pre .spelled, moved [] (branches-of (c .new-path .result)) (sym (c .new-path .ensures)) start)
 
 pub push-requires : need.push-requires
 push-requires g c κs =
@@ -41,7 +41,7 @@ judge-leaf-requires g c κs =
     (c .in-Some .ensures tt) (ap held (c .in-Leaf .is)) in
     record {
       sized = record {
-        few = omega (arith, c .turns .ensures .few, c .pre .few);
+        few = omega (arith, c .branches .ensures .few, c .pre .few);
         scale = simp (simp toZ-ofZ at (c .unsigned-abs-in-Leaf .ensures .value)) (at .fits .scale);
         potentials = at .fits .potentials;
         multipliers = at .fits .multipliers;
@@ -55,8 +55,8 @@ returns-in-Break-judge-leaf g c t fits is =
     (leaf-record (c .in-Leaf .scale) (c .in-Leaf .potentials .now) (c .in-Leaf .multipliers .now)) (c .in-Some .next .now)
     (c .in-Some .ensures tt) (ap held (c .in-Leaf .is)) in
     let f : SFits w32 (c .in-Leaf .scale) = search needs in
-    let same = leaf-same (g .T·Tariff .le (c .args .tariff .now)) (g .T·Tariff .unit (c .args .tariff .now)) (task-of (c .args .task)) (pair (c .args .claimed)) (c .loop-record .path) (c .turns .result .now)
-    (c .loop-record .count) (c .unsigned-abs-in-Leaf .result) (c .in-Leaf .scale) (c .in-Leaf .potentials .now) (c .in-Leaf .multipliers .now) (c .turns .ensures .value)
+    let same = leaf-same (g .T·Tariff .le (c .args .tariff .now)) (g .T·Tariff .unit (c .args .tariff .now)) (task-of (c .args .task)) (pair (c .args .claimed)) (c .loop-record .path) (c .branches .result .now)
+    (c .loop-record .count) (c .unsigned-abs-in-Leaf .result) (c .in-Leaf .scale) (c .in-Leaf .potentials .now) (c .in-Leaf .multipliers .now) (c .branches .ensures .value)
     (simp toZ-ofZ at (c .unsigned-abs-in-Leaf .ensures .value)) in
     let p = err-from-errBy (c .from-residual .result) (c .from-residual .ensures .1) in
     let found = at .failed (c .in-Break-judge-leaf .field-0 .0) (same ∙ sym (c .in-Break-judge-leaf .ensures tt)) in
@@ -72,7 +72,7 @@ loop-record-again-in-Split g c =
     (c .in-Some .ensures tt) (ap held (c .in-Split .is)) in
     let a : c .unsigned-abs .result ≡ natAbs (c .in-Split .edge) = simp toZ-ofZ at (c .unsigned-abs .ensures .value) in
     let b : c .unsigned-abs-in-Split .result ≡ natAbs (c .in-Split .most) = simp toZ-ofZ at (c .unsigned-abs-in-Split .ensures .value) in
-    (c .loop-record .inv .0, moved _ (turns-of (c .push .last .self)) (sym (c .push .ensures ∙ (λ i. turns-of (c .loop-record .path) ++ (first-of (a i) (b i) ∷ [])))) (at .passed))
+    (c .loop-record .inv .0, moved _ (branches-of (c .push .last .self)) (sym (c .push .ensures ∙ (λ i. branches-of (c .loop-record .path) ++ (first-of (a i) (b i) ∷ [])))) (at .passed))
 
 pub loop-record-less : need.loop-record-less
 loop-record-less g c =
@@ -86,10 +86,10 @@ loop-record-again g c =
     (leaf-record (c .in-Leaf .scale) (c .in-Leaf .potentials .now) (c .in-Leaf .multipliers .now)) (c .in-Some .next .now)
     (c .in-Some .ensures tt) (ap held (c .in-Leaf .is)) in
     let f : SFits w32 (c .in-Leaf .scale) = search needs in
-    let same = leaf-same (g .T·Tariff .le (c .args .tariff .now)) (g .T·Tariff .unit (c .args .tariff .now)) (task-of (c .args .task)) (pair (c .args .claimed)) (c .loop-record .path) (c .turns .result .now)
-    (c .loop-record .count) (c .unsigned-abs-in-Leaf .result) (c .in-Leaf .scale) (c .in-Leaf .potentials .now) (c .in-Leaf .multipliers .now) (c .turns .ensures .value)
+    let same = leaf-same (g .T·Tariff .le (c .args .tariff .now)) (g .T·Tariff .unit (c .args .tariff .now)) (task-of (c .args .task)) (pair (c .args .claimed)) (c .loop-record .path) (c .branches .result .now)
+    (c .loop-record .count) (c .unsigned-abs-in-Leaf .result) (c .in-Leaf .scale) (c .in-Leaf .potentials .now) (c .in-Leaf .multipliers .now) (c .branches .ensures .value)
     (simp toZ-ofZ at (c .unsigned-abs-in-Leaf .ensures .value)) in
-    (c .loop-record .inv .0, moved _ (turns-of (c .onward .last .self)) (sym (c .onward .ensures)) (at .passed (same ∙ sym (c .in-Continue-judge-leaf .ensures tt))))
+    (c .loop-record .inv .0, moved _ (branches-of (c .onward .last .self)) (sym (c .onward .ensures)) (at .passed (same ∙ sym (c .in-Continue-judge-leaf .ensures tt))))
 
 pub returns : need.returns
 returns g c t fits is =

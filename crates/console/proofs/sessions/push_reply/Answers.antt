@@ -4,7 +4,7 @@ use native.Mathlib.Omega.{arith}
 use lib.ListN.{length, take}
 use Rattle.std.specs.Of.Vec.{vec-items}
 use Rattle.std.specs.Results.{isOk}
-use Rattle.console.proofs.Turns.{reply-part, pushed-like}
+use Rattle.console.proofs.OneByOne.{reply-part, pushed-like}
 use Rattle.console.proofs.sessions.push_reply.Needs as need
 
 pub part-extend-from-slice-end : need.part-extend-from-slice-end

@@ -10,7 +10,7 @@ use Rattle.judge.specs.Cases.{contents}
 use Rattle.console.specs.Lines.{lines}
 use Rattle.console.specs.Rendering.{rendered}
 use Rattle.console.proofs.Feeds.{after-shorter}
-use Rattle.console.proofs.Turns.{reached-more, reached-all}
+use Rattle.console.proofs.OneByOne.{reached-more, reached-all}
 use Rattle.console.proofs.sessions.session.Needs as need
 
 pub returns-in-Break-push-reply : need.returns-in-Break-push-reply
