@@ -22,7 +22,7 @@ fn ask_signs<T: Tariff>(
     n: usize,
 ) -> Result<(), Refusal>
     requires { Sized task path.now leaf }
-    ensures { result ≡ signs_answer (le tariff.now) (lines_at (task_of task.entry) (map branch_of path.now)) (leaf_held leaf.entry) n }
+    ensures { result ≡ signs_answer (T.le tariff.now) (lines_at (task_of task.entry) (map branch_of path.now)) (leaf_held leaf.entry) n }
 {
     let mut answer = Ok(());
     'rows: for row in 0..task.rows.len() + path.len() {
@@ -43,7 +43,7 @@ fn ask_edges<T: Tariff>(
     n: usize,
 ) -> Result<(), Refusal>
     requires { Sized task path.now leaf }
-    ensures { result ≡ edges_answer (le tariff.now) (task_of task.entry) (lines_at (task_of task.entry) (map branch_of path.now)) (leaf_held leaf.entry) n }
+    ensures { result ≡ edges_answer (T.le tariff.now) (task_of task.entry) (lines_at (task_of task.entry) (map branch_of path.now)) (leaf_held leaf.entry) n }
 {
     let mut answer = Ok(());
     'edges: for edge in 0..task.edges.len() {
@@ -66,7 +66,7 @@ pub(crate) fn judge_leaf<T: Tariff>(
 ) -> Result<(), Refusal>
     requires sized { Sized task path.now leaf }
     requires small { Both (2 ^ 42) (pair claimed) }
-    ensures { result ≡ leaf_answer (le tariff.now) (unit tariff.now) (task_of task.entry) (pair claimed) (lines_at (task_of task.entry) (map branch_of path.now)) (leaf_held leaf.entry) n }
+    ensures { result ≡ leaf_answer (T.le tariff.now) (T.unit tariff.now) (task_of task.entry) (pair claimed) (lines_at (task_of task.entry) (map branch_of path.now)) (leaf_held leaf.entry) n }
 {
     ask_signs(tariff, task, path, leaf, n)?;
     ask_edges(tariff, task, path, leaf, n)?;

@@ -1,4 +1,6 @@
 // Judges a backing tree: whether it proves that no run of a task is dearer than claimed, or that there is none.
+#![tactic(auto)]
+
 mod branches;
 mod cases;
 mod judging;

@@ -51,7 +51,7 @@ fn judge_tree<T: Tariff>(
     requires few { length task.rows.now ≤ 24 }
     requires small { Both (2 ^ 42) (pair claimed) }
     requires top { top ≤ℤ pos 1000 }
-    ensures { result ≡ list_answer (le tariff.now) (unit tariff.now) (task_of task.entry) (pair claimed) top list.now }
+    ensures { result ≡ list_answer (T.le tariff.now) (T.unit tariff.now) (task_of task.entry) (pair claimed) top list.now }
 {
     let count = nodes(task.edges);
     let rows = task.rows.len();
@@ -79,7 +79,7 @@ fn judge<T: Tariff>(
     list: &[i32],
 ) -> Result<(), Refusal>
     requires { top ≤ℤ pos 1000 }
-    ensures { result ≡ task_answer (le tariff.now) (unit tariff.now) (task_of task.entry) (pair claimed) top list.now }
+    ensures { result ≡ task_answer (T.le tariff.now) (T.unit tariff.now) (task_of task.entry) (pair claimed) top list.now }
 {
     if task.edges.len() > MAX_EDGES {
         return Err(Refusal::EdgesFull);
@@ -100,17 +100,17 @@ pub fn prove_price<T: Tariff>(
     claimed: Price,
     tree: &[i32],
 ) -> Result<(), Refusal>
-    ensures answer { result ≡ price_answer (le tariff.now) (unit tariff.now) (task_of task.entry) (pair claimed) tree.now }
-    ensures means { Judged (le tariff.now) (unit tariff.now) (task_of task.entry) (pair claimed) (pos 1000) tree.now result }
-    ensures sound { PriceProved (le tariff.now) (task_of task.entry) (pair claimed) result }
+    ensures answer { result ≡ price_answer (T.le tariff.now) (T.unit tariff.now) (task_of task.entry) (pair claimed) tree.now }
+    ensures means { Judged (T.le tariff.now) (T.unit tariff.now) (task_of task.entry) (pair claimed) (pos 1000) tree.now result }
+    ensures sound { PriceProved (T.le tariff.now) (task_of task.entry) (pair claimed) result }
 {
     judge(tariff, task, claimed, MAX_SCALE, tree)
 }
 
 /// Judges a tree that is to prove that no run keeps every row; D is 0.
 pub fn prove_void<T: Tariff>(tariff: &T, task: Task<'_>, tree: &[i32]) -> Result<(), Refusal>
-    ensures answer { result ≡ void_answer (le tariff.now) (unit tariff.now) (task_of task.entry) tree.now }
-    ensures means { Judged (le tariff.now) (unit tariff.now) (task_of task.entry) zero (pos 0) tree.now result }
+    ensures answer { result ≡ void_answer (T.le tariff.now) (T.unit tariff.now) (task_of task.entry) tree.now }
+    ensures means { Judged (T.le tariff.now) (T.unit tariff.now) (task_of task.entry) zero (pos 0) tree.now result }
     ensures sound { VoidProved (task_of task.entry) result }
 {
     judge(tariff, task, price_of(0, 0), 0, tree)

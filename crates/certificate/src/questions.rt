@@ -44,7 +44,7 @@ pub(crate) fn sign_passes<T: Tariff>(
 ) -> bool
     requires sized { Sized task path.now leaf }
     requires known { i < length task.rows.now + length path.now }
-    ensures { result ≡ row_ok (le tariff.now) (leaf_held leaf.entry) i (slice_index_or (lines_at (task_of task.entry) (map branch_of path.now)) i no_line) }
+    ensures { result ≡ row_ok (T.le tariff.now) (leaf_held leaf.entry) i (slice_index_or (lines_at (task_of task.entry) (map branch_of path.now)) i no_line) }
 {
     if wants_equality(task, i) {
         return true;
@@ -64,7 +64,7 @@ pub(crate) fn edge_passes<T: Tariff>(
 ) -> bool
     requires sized { Sized task path.now leaf }
     requires known { i < length task.edges.now }
-    ensures { result ≡ edge_ok (le tariff.now) (lines_at (task_of task.entry) (map branch_of path.now)) (leaf_held leaf.entry) i (edge_at task.entry.edges.now i) }
+    ensures { result ≡ edge_ok (T.le tariff.now) (lines_at (task_of task.entry) (map branch_of path.now)) (leaf_held leaf.entry) i (edge_at task.entry.edges.now i) }
 {
     let price = scaled_price(leaf.scale, &task.edges[i]);
     tariff.compare(price, allowance(task, path, leaf, i))
@@ -80,7 +80,7 @@ pub(crate) fn bound_passes<T: Tariff>(
 ) -> bool
     requires sized { Sized task path.now leaf }
     requires small { Both (2 ^ 42) (pair claimed) }
-    ensures { result ≡ bound_ok (le tariff.now) (unit tariff.now) (task_of task.entry) (pair claimed) (lines_at (task_of task.entry) (map branch_of path.now)) (leaf_held leaf.entry) }
+    ensures { result ≡ bound_ok (T.le tariff.now) (T.unit tariff.now) (task_of task.entry) (pair claimed) (lines_at (task_of task.entry) (map branch_of path.now)) (leaf_held leaf.entry) }
 {
     let step = tariff.unit();
     let past = multiple(

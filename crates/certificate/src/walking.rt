@@ -24,7 +24,7 @@ pub(crate) fn judge_list<T: Tariff>(
     requires few { (nodes ≤ 256) × (length task.rows.now ≤ 24) }
     requires small { Both (2 ^ 42) (pair claimed) }
     requires spelled { Judgeable nodes (length task.rows.now) list.now }
-    ensures { (t : Tree) → Fits 12 nodes (length task.entry.rows.now) t → spelled t ≡ list.now → result ≡ tree_answer (le tariff.now) (unit tariff.now) (task_of task.entry) (pair claimed) t }
+    ensures { (t : Tree) → Fits 12 nodes (length task.entry.rows.now) t → spelled t ≡ list.now → result ≡ tree_answer (T.le tariff.now) (T.unit tariff.now) (task_of task.entry) (pair claimed) t }
 {
     let mut path = Path::new();
     let mut rest = list;

@@ -1,4 +1,6 @@
 // The console: one line is read, done and answered in one line.
+#![tactic(auto)]
+
 mod answers;
 mod decimals;
 mod replies;

@@ -21,7 +21,7 @@ fn judge_claim<T: Tariff>(
     tree: &[i32],
 ) -> Result<Price, Refusal>
     requires { length task.edges.now ≤ 64 }
-    ensures { mapped pair result ≡ claim_on (le tariff.now) (unit tariff.now) (task_of task.entry) turns.now tree.now }
+    ensures { mapped pair result ≡ claim_on (T.le tariff.now) (T.unit tariff.now) (task_of task.entry) turns.now tree.now }
 {
     check_turns(task.edges, task.rows, task.start, task.end, turns)?;
     let price = price_of(task.edges, turns)?;
@@ -51,7 +51,7 @@ impl Case {
         turns: &[u32],
         tree: &[i32],
     ) -> Result<Price, Refusal>
-        ensures { mapped pair result ≡ claim_on (le tariff.now) (unit tariff.now) (task_between (contents self.now).edges (contents self.now).rows start end) turns.now tree.now }
+        ensures { mapped pair result ≡ claim_on (T.le tariff.now) (T.unit tariff.now) (task_between (contents self.now).edges (contents self.now).rows start end) turns.now tree.now }
     {
         judge_claim(tariff, self.task(start, end), turns, tree)
     }
@@ -64,7 +64,7 @@ impl Case {
         end: u8,
         tree: &[i32],
     ) -> Result<(), Refusal>
-        ensures { result ≡ tree_answer (le tariff.now) (unit tariff.now) (task_between (contents self.now).edges (contents self.now).rows start end) tree.now }
+        ensures { result ≡ tree_answer (T.le tariff.now) (T.unit tariff.now) (task_between (contents self.now).edges (contents self.now).rows start end) tree.now }
     {
         prove_void(tariff, self.task(start, end), tree)
     }
@@ -76,7 +76,7 @@ impl Case {
         turns: &[u32],
         tree: &[i32],
     ) -> Result<Price, Refusal>
-        ensures answer { mapped pair result ≡ claim_answer (le tariff.now) (unit tariff.now) (contents self.old) turns.now tree.now }
+        ensures answer { mapped pair result ≡ claim_answer (T.le tariff.now) (T.unit tariff.now) (contents self.old) turns.now tree.now }
         ensures kept { contents self.new ≡ claim_kept (mapped pair result) (contents self.old) }
     {
         match self.stage {
@@ -97,16 +97,16 @@ impl Case {
         turns: &[u32],
         tree: &[i32],
     ) -> Result<Price, Refusal>
-        ensures answer { mapped pair result ≡ claim_answer (le tariff.now) (unit tariff.now) (contents self.old) turns.now tree.now }
+        ensures answer { mapped pair result ≡ claim_answer (T.le tariff.now) (T.unit tariff.now) (contents self.old) turns.now tree.now }
         ensures kept { contents self.new ≡ claim_kept (mapped pair result) (contents self.old) }
-        ensures accepted { IfOk result (λ p. Accepted (le tariff.now) (contents self.old).edges (contents self.old).rows turns.now (pair p)) }
+        ensures accepted { IfOk result (λ p. Accepted (T.le tariff.now) (contents self.old).edges (contents self.old).rows turns.now (pair p)) }
     {
         self.accept_claim(tariff, turns, tree)
     }
 
     // The questions of a void claim in order, and what it leaves.
     fn accept_void<T: Tariff>(&mut self, tariff: &T, tree: &[i32]) -> Result<(), Refusal>
-        ensures answer { result ≡ void_answer (le tariff.now) (unit tariff.now) (contents self.old) tree.now }
+        ensures answer { result ≡ void_answer (T.le tariff.now) (T.unit tariff.now) (contents self.old) tree.now }
         ensures kept { contents self.new ≡ void_kept result (contents self.old) }
     {
         match self.stage {
@@ -121,7 +121,7 @@ impl Case {
 
     /// Judges the claim that no run keeps every row, backed by this tree.
     pub fn void<T: Tariff>(&mut self, tariff: &T, tree: &[i32]) -> Result<(), Refusal>
-        ensures answer { result ≡ void_answer (le tariff.now) (unit tariff.now) (contents self.old) tree.now }
+        ensures answer { result ≡ void_answer (T.le tariff.now) (T.unit tariff.now) (contents self.old) tree.now }
         ensures kept { contents self.new ≡ void_kept result (contents self.old) }
         ensures accepted { OnOk result (Voided (contents self.old).edges (contents self.old).rows) }
     {

@@ -1,4 +1,6 @@
 // A task on trial: the case that holds it, and the calls on the case.
+#![tactic(auto)]
+
 mod calls;
 mod case;
 mod claiming;

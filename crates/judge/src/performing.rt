@@ -11,8 +11,8 @@ use price::Tariff;
 
 /// Has the case do what is asked under this tariff, and answers what it answered.
 pub fn perform<T: Tariff>(case: &mut Case, tariff: &T, call: &Call) -> Answer
-    ensures answer { said result ≡ answered (le tariff.now) (unit tariff.now) (contents case.old) (request call.now) }
-    ensures kept { contents case.new ≡ after (le tariff.now) (unit tariff.now) (contents case.old) (request call.now) }
+    ensures answer { said result ≡ answered (T.le tariff.now) (T.unit tariff.now) (contents case.old) (request call.now) }
+    ensures kept { contents case.new ≡ after (T.le tariff.now) (T.unit tariff.now) (contents case.old) (request call.now) }
 {
     match *call {
         Call::Edge {

@@ -1,4 +1,6 @@
 // Reads a session from standard input, and prints the reply of each of its lines.
+#![tactic(auto)]
+
 ghost use Rattle.std.specs.Prelude.{◌≤◌, length, IfOk};
 
 use console::session;

@@ -1,4 +1,6 @@
 // Prices of two parts, the tariffs that order them, and the refusals of all calls.
+#![tactic(auto)]
+
 mod by_cycles;
 mod by_weight;
 mod prices;

@@ -28,5 +28,5 @@ pub trait Tariff {
 
 /// The theorem that the laws suffice: whatever the judge uses of a tariff follows from them alone.
 pub fn laws_suffice<T: Tariff>(tariff: &T)
-    ensures { Follows (le tariff.now) (unit tariff.now) }
+    ensures { Follows (T.le tariff.now) (T.unit tariff.now) }
 {}

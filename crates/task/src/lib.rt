@@ -1,4 +1,6 @@
 // The graph of a task, its rows and its two ends.
+#![tactic(auto)]
+
 mod edges;
 mod keeping;
 mod laws;

@@ -1,4 +1,6 @@
 // Runs worked cases that no single session of `maxt` can have, and prints what they were answered.
+#![tactic(auto)]
+
 mod deep;
 
 use anyhow::anyhow;

@@ -1,4 +1,6 @@
 // The walk that hands out the run of a claim, edge by edge.
+#![tactic(auto)]
+
 mod exits;
 mod laws;
 mod stepping;

@@ -17,10 +17,10 @@ product c =
     let reads : to_z w64 (of_z w64 c.reads.result) ≡ c.args.p.reads = omega (arith, ints) in
     λ i. weight i *ℤ reads i
 
-pub overflow-mul-result : goal.overflow-mul-result
-overflow-mul-result c = subst (SFits w64) (sym (product c)) (omega (arith, ints, few c.args.self c.args.p))
+pub overflow_mul-result : goal.overflow_mul-result
+overflow_mul-result c = subst (SFits w64) (sym (product c)) (omega (arith, ints, few c.args.self c.args.p))
 
 pub returns : goal.returns
 returns c =
-    let value = to_z-of_z w64 _ (overflow-mul-result c) ∙ product c in
+    let value = to_z-of_z w64 _ (overflow_mul-result c) ∙ product c in
     record { value = value; small = subst (Within (2 ^ 60)) (sym value) (omega (arith, ints, few c.args.self c.args.p)) }
