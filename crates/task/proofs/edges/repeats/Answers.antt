@@ -5,8 +5,8 @@ use Rattle.task.specs.Edges.{repeated}
 use Rattle.task.proofs.Repeated.{repeated_says}
 use Rattle.task.proofs.edges.repeats.Goals as goal
 
-pub returns-then-has-same-ends : goal.returns-then-has-same-ends
-returns-then-has-same-ends c =
+pub returns-then-has_same_ends : goal.returns-then-has_same_ends
+returns-then-has_same_ends c =
     let is : true ≡ repeated c.args.edge.now c.args.edges.now =
     grind (arith, nat_tests, at_drop_more (repeated c.args.edge.now) c.args.edges.now c.loop-other.other-index) in
     record { answer = is; means = Decides-at true _ is (repeated_says c.args.edge.now c.args.edges.now) }

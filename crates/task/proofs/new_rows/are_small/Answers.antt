@@ -4,8 +4,8 @@ use Rattle.std.proofs.lemmas.Bool.Decides.{nat_tests}
 use Rattle.task.specs.Coefficients.{all_small}
 use Rattle.task.proofs.new_rows.are_small.Goals as goal
 
-pub returns-then-not-is-small : goal.returns-then-not-is-small
-returns-then-not-is-small c = grind (arith, nat_tests, at_drop_more all_small c.args.coefficients.now c.loop-coefficient.coefficient-index)
+pub returns-then-not-is_small : goal.returns-then-not-is_small
+returns-then-not-is_small c = grind (arith, nat_tests, at_drop_more all_small c.args.coefficients.now c.loop-coefficient.coefficient-index)
 
 pub loop-coefficient-preserved : goal.loop-coefficient-preserved
 loop-coefficient-preserved c = grind (arith, nat_tests, at_drop_more all_small c.args.coefficients.now c.loop-coefficient.coefficient-index)

@@ -5,7 +5,7 @@ use Rattle.task.proofs.pricing.price_of.Goals as goal
 
 pub loop-x-preserved : goal.loop-x-preserved
 loop-x-preserved c =
-    let cost = c.cost-more-cycles in
+    let cost = c.cost-more_cycles in
     adding_more c.args.edges.now c.args.turns.now c.loop-x.x c.loop-x.cycles c.loop-x.reads c.loop-x.invariant cost.result.0 cost.result.1
     (omega arith) (search rules) cost.ensures.value.0 cost.ensures.small.0 cost.ensures.value.1 cost.ensures.small.1
 

@@ -6,10 +6,10 @@ use Rattle.task.proofs.sealing.ends.Goals as goal
 pub returns : goal.returns
 returns c =
     let es = c.args.edges.now in
-    let says : Sealed es c.find-ends.result = subst (Sealed es) (sym c.find-ends.ensures) (answer_says es) in
+    let says : Sealed es c.find_ends.result = subst (Sealed es) (sym c.find_ends.ensures) (answer_says es) in
     record {
-      answer = c.find-ends.ensures;
+      answer = c.find_ends.ensures;
       means = says;
-      exact = λ s e. exactly es c.find-ends.result s e says;
-      law = λ s e ok. every_edge es s e ((exactly es c.find-ends.result s e says).0 ok);
+      exact = λ s e. exactly es c.find_ends.result s e says;
+      law = λ s e ok. every_edge es s e ((exactly es c.find_ends.result s e says).0 ok);
     }

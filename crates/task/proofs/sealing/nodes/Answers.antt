@@ -4,7 +4,7 @@ use Rattle.task.specs.Sides.{node_count}
 use Rattle.task.proofs.sealing.nodes.Goals as goal
 
 pub loop-edge-preserved : goal.loop-edge-preserved
-loop-edge-preserved c = grind (arith, at_drop_more node_count c.args.edges.now c.loop-edge.edge_index)
+loop-edge-preserved c = grind (arith, at_drop_more node_count c.args.edges.now c.loop-edge.edge-index)
 
 pub returns : goal.returns
-returns c = grind (arith, at_drop_all node_count c.args.edges.now c.loop-edge.edge_index)
+returns c = grind (arith, at_drop_all node_count c.args.edges.now c.loop-edge.edge-index)

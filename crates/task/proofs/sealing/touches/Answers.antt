@@ -5,10 +5,10 @@ use Rattle.task.specs.Sides.{touched}
 use Rattle.task.proofs.sealing.touches.Goals as goal
 
 pub returns-then-node : goal.returns-then-node
-returns-then-node c = grind (arith, nat_tests, at_drop_more (touched c.args.side c.args.node) c.args.edges.now c.loop-edge.edge_index)
+returns-then-node c = grind (arith, nat_tests, at_drop_more (touched c.args.side c.args.node) c.args.edges.now c.loop-edge.edge-index)
 
 pub loop-edge-preserved : goal.loop-edge-preserved
-loop-edge-preserved c = grind (arith, nat_tests, at_drop_more (touched c.args.side c.args.node) c.args.edges.now c.loop-edge.edge_index)
+loop-edge-preserved c = grind (arith, nat_tests, at_drop_more (touched c.args.side c.args.node) c.args.edges.now c.loop-edge.edge-index)
 
 pub returns : goal.returns
-returns c = grind (arith, nat_tests, at_drop_all (touched c.args.side c.args.node) c.args.edges.now c.loop-edge.edge_index)
+returns c = grind (arith, nat_tests, at_drop_all (touched c.args.side c.args.node) c.args.edges.now c.loop-edge.edge-index)

@@ -10,10 +10,10 @@ returns c =
     let es = c.args.edges.now in
     let rows = rows_of c.args.rows.now in
     let ts = c.args.turns.now in
-    let says : Checked es rows c.args.start c.args.end ts c.ask-turns.result = answers es rows c.args.start c.args.end ts c.ask-turns.result c.ask-turns.ensures in
-    let exact : (c.ask-turns.result ≡ Ok tt) ↔ Sound es rows c.args.start c.args.end ts = exactly es rows c.args.start c.args.end ts c.ask-turns.result says in
+    let says : Checked es rows c.args.start c.args.end ts c.ask_turns.result = answers es rows c.args.start c.args.end ts c.ask_turns.result c.ask_turns.ensures in
+    let exact : (c.ask_turns.result ≡ Ok tt) ↔ Sound es rows c.args.start c.args.end ts = exactly es rows c.args.start c.args.end ts c.ask_turns.result says in
     record {
-      answer = c.ask-turns.ensures;
+      answer = c.ask_turns.ensures;
       means = says;
       exact = exact;
       claims = λ is ends. claims es rows c.args.start c.args.end ts (exact.0 is) ends;

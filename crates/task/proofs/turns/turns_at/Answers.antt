@@ -14,7 +14,7 @@ loop-x-preserved c =
     elim c.if-node.branch [
       | then-node w ↦
           let own = ap (λ b. cond b turns 0) (eq-eqb here c.args.node (sym c.node.ensures ∙ w.if-node.true)) in
-          (omega (arith, more, own, w.sum-is, c.loop-x.invariant.0), omega (arith, w.sum-is, c.loop-x.invariant.1, c.type-inv.turns c.loop-x.x))
+          (omega (arith, more, own, w.sum-is, c.loop-x.invariant.0), omega (arith, w.sum-is, c.loop-x.invariant.1, c.type_inv.turns c.loop-x.x))
       | else-node w ↦
           let own = ap (λ b. cond b turns 0) (ne_eqb here c.args.node (λ e. w.if-node.false (c.node.ensures ∙ e))) in
           (omega (arith, more, own, w.sum-is, c.loop-x.invariant.0), omega (arith, w.sum-is, c.loop-x.invariant.1))
