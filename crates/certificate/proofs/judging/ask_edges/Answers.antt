@@ -11,14 +11,14 @@ use Rattle.certificate.proofs.judging.ask_edges.Goals as goal
 pub edges-preserved : goal.edges-preserved
 edges-preserved g c =
     let ok = edge_ok (g.T.Tariff.le c.args.tariff.now) (lines_at (task_of c.args.task) (map branch_of c.args.path.now)) (leaf_held c.args.leaf) in
-    (c.edges.invariant.0, one_passed ok (AllowanceShort c.args.n) c.args.task.edges.now c.edges.edge c.edges.edge _ c.edges.invariant.1 no_edge (omega arith) (sym c.edge-passes.ensures ∙ c.if-not-edge-passes.false))
+    (c.edges.invariant.0, one_passed ok (AllowanceShort c.args.n) c.args.task.edges.now c.edges.edge c.edges.edge _ c.edges.invariant.1 no_edge (omega arith) (sym c.edge_passes.ensures ∙ c.if-not-edge_passes.false))
 
 pub returns-after-edges : goal.returns-after-edges
 returns-after-edges g c =
     let ok = edge_ok (g.T.Tariff.le c.args.tariff.now) (lines_at (task_of c.args.task) (map branch_of c.args.path.now)) (leaf_held c.args.leaf) in
     c.edges.invariant.0 ∙ sym (all_passed ok (AllowanceShort c.args.n) c.args.task.edges.now c.edges.edge c.edges.edge _ c.edges.invariant.1 (omega arith))
 
-pub returns-then-not-edge-passes : goal.returns-then-not-edge-passes
-returns-then-not-edge-passes g c =
+pub returns-then-not-edge_passes : goal.returns-then-not-edge_passes
+returns-then-not-edge_passes g c =
     let ok = edge_ok (g.T.Tariff.le c.args.tariff.now) (lines_at (task_of c.args.task) (map branch_of c.args.path.now)) (leaf_held c.args.leaf) in
-    sym (one_failed ok (AllowanceShort c.args.n) c.args.task.edges.now c.edges.edge c.edges.edge _ c.edges.invariant.1 no_edge (omega arith) (sym c.edge-passes.ensures ∙ c.if-not-edge-passes.true))
+    sym (one_failed ok (AllowanceShort c.args.n) c.args.task.edges.now c.edges.edge c.edges.edge _ c.edges.invariant.1 no_edge (omega arith) (sym c.edge_passes.ensures ∙ c.if-not-edge_passes.true))

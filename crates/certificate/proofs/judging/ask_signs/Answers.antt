@@ -15,7 +15,7 @@ rows-preserved g c =
     let count = lines_count c.args.task.edges.now c.args.task.rows.now c.args.path.now in (
       c.rows.invariant.0,
       one_passed (row_ok (g.T.Tariff.le c.args.tariff.now) (leaf_held c.args.leaf)) (MultiplierSign c.args.n) table c.rows.row c.rows.row _ c.rows.invariant.1 no_line (omega (arith, count))
-          (sym c.sign-passes.ensures ∙ c.if-not-sign-passes.false),
+          (sym c.sign_passes.ensures ∙ c.if-not-sign_passes.false),
     )
 
 pub returns-after-rows : goal.returns-after-rows
@@ -25,9 +25,9 @@ returns-after-rows g c =
     c.rows.invariant.0
     ∙ sym (all_passed (row_ok (g.T.Tariff.le c.args.tariff.now) (leaf_held c.args.leaf)) (MultiplierSign c.args.n) table c.rows.row c.rows.row _ c.rows.invariant.1 (omega (arith, count)))
 
-pub returns-then-not-sign-passes : goal.returns-then-not-sign-passes
-returns-then-not-sign-passes g c =
+pub returns-then-not-sign_passes : goal.returns-then-not-sign_passes
+returns-then-not-sign_passes g c =
     let table = lines_at (task_of c.args.task) (map branch_of c.args.path.now) in
     let count = lines_count c.args.task.edges.now c.args.task.rows.now c.args.path.now in
     sym (one_failed (row_ok (g.T.Tariff.le c.args.tariff.now) (leaf_held c.args.leaf)) (MultiplierSign c.args.n) table c.rows.row c.rows.row _ c.rows.invariant.1 no_line (omega (arith, count))
-    (sym c.sign-passes.ensures ∙ c.if-not-sign-passes.true))
+    (sym c.sign_passes.ensures ∙ c.if-not-sign_passes.true))

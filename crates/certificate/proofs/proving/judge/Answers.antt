@@ -9,28 +9,28 @@ use Rattle.certificate.specs.Tasks.{task_of}
 use Rattle.certificate.specs.Verdicts.{list_answer, task_answer}
 use Rattle.certificate.proofs.proving.judge.Goals as goal
 
-pub returns-then-task-gt-MAX-ROWS : goal.returns-then-task-gt-MAX-ROWS
-returns-then-task-gt-MAX-ROWS g c =
+pub returns-then-task-gt-MAX_ROWS : goal.returns-then-task-gt-MAX_ROWS
+returns-then-task-gt-MAX_ROWS g c =
     let es : leb (length c.args.task.edges.now) 64 ≡ true = le-leb _ _ (omega arith) in
     let rs : leb (length (map row_of c.args.task.rows.now)) 24 ≡ false = lt-leb _ _ (omega (arith, length-map c.args.task.rows.now row_of)) in
     simp (es, rs)
 
-pub returns-then-not-is-claimable : goal.returns-then-not-is-claimable
-returns-then-not-is-claimable g c =
+pub returns-then-not-is_claimable : goal.returns-then-not-is_claimable
+returns-then-not-is_claimable g c =
     let es : leb (length c.args.task.edges.now) 64 ≡ true = le-leb _ _ (omega arith) in
     let rs : leb (length (map row_of c.args.task.rows.now)) 24 ≡ true = le-leb _ _ (omega (arith, length-map c.args.task.rows.now row_of)) in
-    let ps : in_range (2 ^ 42) c.args.claimed.cycles && in_range (2 ^ 42) c.args.claimed.reads ≡ false = sym c.is-claimable.ensures ∙ c.if-not-is-claimable.true in
+    let ps : in_range (2 ^ 42) c.args.claimed.cycles && in_range (2 ^ 42) c.args.claimed.reads ≡ false = sym c.is_claimable.ensures ∙ c.if-not-is_claimable.true in
     simp (es, rs, ps)
 
 pub returns : goal.returns
 returns g c =
     let es : leb (length c.args.task.edges.now) 64 ≡ true = le-leb _ _ (omega arith) in
     let rs : leb (length (map row_of c.args.task.rows.now)) 24 ≡ true = le-leb _ _ (omega (arith, length-map c.args.task.rows.now row_of)) in
-    let ps : in_range (2 ^ 42) c.args.claimed.cycles && in_range (2 ^ 42) c.args.claimed.reads ≡ true = sym c.is-claimable.ensures ∙ c.if-not-is-claimable.false in
+    let ps : in_range (2 ^ 42) c.args.claimed.cycles && in_range (2 ^ 42) c.args.claimed.reads ≡ true = sym c.is_claimable.ensures ∙ c.if-not-is_claimable.false in
     let le = g.T.Tariff.le c.args.tariff.now in
     let unit = g.T.Tariff.unit c.args.tariff.now in
     let task = task_of c.args.task in
     let u = c.ranges.top in
     let same : to_z w32 (of_z w32 c.args.top) ≡ c.args.top = simp to_z-of_z in
     let within : task_answer le unit task (pair c.args.claimed) c.args.top c.args.list.now ≡ list_answer le unit task (pair c.args.claimed) c.args.top c.args.list.now = simp (es, rs, ps) in
-    c.judge-tree.ensures ∙ ap (λ z. list_answer le unit task (pair c.args.claimed) z c.args.list.now) same ∙ sym within
+    c.judge_tree.ensures ∙ ap (λ z. list_answer le unit task (pair c.args.claimed) z c.args.list.now) same ∙ sym within

@@ -18,14 +18,14 @@ loop-i-preserved c =
     let f : SFits w32 (get_or c.args.list.now c.loop-i.i (pos 0)) = search rules in
     let e : c.args.place + c.loop-i.i + 1 ≡ c.args.place + (c.loop-i.i + 1) = omega arith in
     one_passed (λ i z. in_range 67108864 z) TreeRange c.args.list.now (c.args.place + c.loop-i.i) c.loop-i.i _ c.loop-i.invariant (pos 0) (omega arith)
-    (sym (simp to_z-of_z at c.is-inside.ensures) ∙ c.if-not-is-inside.false)
+    (sym (simp to_z-of_z at c.is_inside.ensures) ∙ c.if-not-is_inside.false)
     ∙ ap (λ (n : ℕ). first_failing (λ i z. in_range 67108864 z) TreeRange n (drop (c.loop-i.i + 1) c.args.list.now)) e
 
 pub returns : goal.returns
 returns c = sym (all_passed (λ i z. in_range 67108864 z) TreeRange c.args.list.now (c.args.place + c.loop-i.i) c.loop-i.i _ c.loop-i.invariant (omega arith))
 
-pub returns-then-not-is-inside : goal.returns-then-not-is-inside
-returns-then-not-is-inside c =
+pub returns-then-not-is_inside : goal.returns-then-not-is_inside
+returns-then-not-is_inside c =
     let f : SFits w32 (get_or c.args.list.now c.loop-i.i (pos 0)) = search rules in
     sym (one_failed (λ i z. in_range 67108864 z) TreeRange c.args.list.now (c.args.place + c.loop-i.i) c.loop-i.i _ c.loop-i.invariant (pos 0) (omega arith)
-    (sym (simp to_z-of_z at c.is-inside.ensures) ∙ c.if-not-is-inside.true))
+    (sym (simp to_z-of_z at c.is_inside.ensures) ∙ c.if-not-is_inside.true))

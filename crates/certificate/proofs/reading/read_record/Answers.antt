@@ -8,10 +8,10 @@ pub returns-in-0 : goal.returns-in-0
 returns-in-0 c =
     let h : 1 ≤ length c.args.list.now = omega (arith, ltb-false) in
     let e : get_or c.args.list.now 0 (pos 0) ≡ pos 0 = omega (arith, ints) in
-    (simp take_rest at c.read-leaf.ensures) ∙ sym (first_leaf c.args.nodes c.args.rows c.args.list.now h e)
+    (simp take_rest at c.read_leaf.ensures) ∙ sym (first_leaf c.args.nodes c.args.rows c.args.list.now h e)
 
 pub returns-in-1 : goal.returns-in-1
 returns-in-1 c =
     let h : 1 ≤ length c.args.list.now = omega (arith, ltb-false) in
     let e : get_or c.args.list.now 0 (pos 0) ≡ pos 1 = omega (arith, ints) in
-    (simp take_rest at c.read-split.ensures) ∙ sym (first_split c.args.nodes c.args.rows c.args.list.now h e)
+    (simp take_rest at c.read_split.ensures) ∙ sym (first_split c.args.nodes c.args.rows c.args.list.now h e)

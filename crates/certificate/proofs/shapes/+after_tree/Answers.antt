@@ -4,38 +4,38 @@ use Rattle.certificate.specs.Reading.{and_then, read_tree}
 use Rattle.certificate.proofs.Readers.{after_none, after_leaf, after_last, after_split}
 use Rattle.certificate.proofs.shapes.+after_tree.Goals as goal
 
-pub returns-in-err-record : goal.returns-in-err-record
-returns-in-err-record t c =
-    rw c.from-residual.ensures
-    (sym (after_none c.args.nodes c.args.rows c.args.list.now [] c.args.splits (sym c.in-err-record.ensures)))
+pub returns-in_err-record : goal.returns-in_err-record
+returns-in_err-record t c =
+    rw c.from_residual.ensures
+    (sym (after_none c.args.nodes c.args.rows c.args.list.now [] c.args.splits (sym c.in_err-record.ensures)))
 
 pub returns-in-Leaf : goal.returns-in-Leaf
 returns-in-Leaf t c =
-    let rest = c.in-ok-record.rest.now in
+    let rest = c.in_ok-record.rest.now in
     sym (after_leaf c.args.nodes c.args.rows c.args.list.now rest c.args.splits _ _ _
-    (sym c.in-ok-record.ensures ∙ ap (λ r. Some (held r, rest)) c.in-Leaf.is))
+    (sym c.in_ok-record.ensures ∙ ap (λ r. Some (held r, rest)) c.in-Leaf.is))
 
 pub returns-then-splits-eq0 : goal.returns-then-splits-eq0
 returns-then-splits-eq0 t c =
-    let rest = c.in-ok-record.rest.now in
+    let rest = c.in_ok-record.rest.now in
     sym (after_last c.args.nodes c.args.rows c.args.list.now rest c.args.splits _ _ (omega arith)
-    (sym c.in-ok-record.ensures ∙ ap (λ r. Some (held r, rest)) c.in-Split.is))
+    (sym c.in_ok-record.ensures ∙ ap (λ r. Some (held r, rest)) c.in-Split.is))
 
-pub returns-in-err-second : goal.returns-in-err-second
-returns-in-err-second t c =
-    let rest = c.in-ok-record.rest.now in
+pub returns-in_err-second-in-Split : goal.returns-in_err-second-in-Split
+returns-in_err-second-in-Split t c =
+    let rest = c.in_ok-record.rest.now in
     let down : c.args.splits ≡ suc (c.args.splits - 1) = omega arith in
     let then = after_split c.args.nodes c.args.rows c.args.list.now rest c.args.splits (c.args.splits - 1) _ _ down
-    (sym c.in-ok-record.ensures ∙ ap (λ r. Some (held r, rest)) c.in-Split.is) in
-    rw c.from-residual-in-err-second.ensures
-    (ap (λ o. and_then o (λ zs. rest_of (read_tree (c.args.splits - 1) c.args.nodes (c.args.rows + 1) zs))) c.in-err-second.ensures ∙ sym then)
+    (sym c.in_ok-record.ensures ∙ ap (λ r. Some (held r, rest)) c.in-Split.is) in
+    rw c.from_residual-in_err-second-in-Split.ensures
+    (ap (λ o. and_then o (λ zs. rest_of (read_tree (c.args.splits - 1) c.args.nodes (c.args.rows + 1) zs))) c.in_err-second-in-Split.ensures ∙ sym then)
 
-pub returns-in-ok-second : goal.returns-in-ok-second
-returns-in-ok-second t c =
-    let rest = c.in-ok-record.rest.now in
+pub returns-in_ok-second-in-Split : goal.returns-in_ok-second-in-Split
+returns-in_ok-second-in-Split t c =
+    let rest = c.in_ok-record.rest.now in
     let down : c.args.splits ≡ suc (c.args.splits - 1) = omega arith in
     let then = after_split c.args.nodes c.args.rows c.args.list.now rest c.args.splits (c.args.splits - 1) _ _ down
-    (sym c.in-ok-record.ensures ∙ ap (λ r. Some (held r, rest)) c.in-Split.is) in
-    c.after-tree-in-Split.ensures
-    ∙ ap (λ o. and_then o (λ zs. rest_of (read_tree (c.args.splits - 1) c.args.nodes (c.args.rows + 1) zs))) c.in-ok-second.ensures
+    (sym c.in_ok-record.ensures ∙ ap (λ r. Some (held r, rest)) c.in-Split.is) in
+    c.after_tree-in-Split.ensures
+    ∙ ap (λ o. and_then o (λ zs. rest_of (read_tree (c.args.splits - 1) c.args.nodes (c.args.rows + 1) zs))) c.in_ok-second-in-Split.ensures
     ∙ sym then

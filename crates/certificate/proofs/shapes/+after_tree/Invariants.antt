@@ -1,4 +1,4 @@
 use Rattle.certificate.proofs.shapes.+after_tree.Given as goal
 
-abbrev pub decreases-after-tree : goal.decreases-after-tree
-decreases-after-tree l = l.splits
+abbrev pub decreases-after_tree : goal.decreases-after_tree
+decreases-after_tree l = l.splits

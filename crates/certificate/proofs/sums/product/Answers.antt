@@ -16,8 +16,8 @@ same c =
 fits : (c : goal.After-from-2) → SFits w64 (c.from.result *ℤ c.from-2.result)
 fits c = subst (SFits w64) (sym (same c)) (omega (arith, ints, small c))
 
-pub overflow-mul-result : goal.overflow-mul-result
-overflow-mul-result c =
+pub overflow_mul-result : goal.overflow_mul-result
+overflow_mul-result c =
     let f : SFits w64 c.from.result = search rules in
     let g : SFits w64 c.from-2.result = search rules in
     simp to_z-of_z (fits c)

@@ -23,10 +23,10 @@ push-requires g c =
     let f : SFits w32 c.in-Split.most = search rules in
     let at = at_record c.loop-record.path c.loop-record.invariant.1 c.in-Some.record (split_record c.in-Split.edge c.in-Split.most) c.in-Some.next.now
     c.in-Some.ensures (ap held c.in-Split.is) in
-    record { few = simp (simp to_z-of_z at c.unsigned-abs-in-Split.ensures.value) at.few; room = at.room }
+    record { few = simp (simp to_z-of_z at c.unsigned_abs-in-Split.ensures.value) at.few; room = at.room }
 
-pub judge-leaf-requires : goal.judge-leaf-requires
-judge-leaf-requires g c =
+pub judge_leaf-requires : goal.judge_leaf-requires
+judge_leaf-requires g c =
     let f : SFits w32 c.in-Leaf.scale = search rules in
     let at = at_record c.loop-record.path c.loop-record.invariant.1 c.in-Some.record
     (leaf_record c.in-Leaf.scale c.in-Leaf.potentials.now c.in-Leaf.multipliers.now) c.in-Some.next.now
@@ -34,24 +34,24 @@ judge-leaf-requires g c =
     record {
       sized = record {
         few = omega (arith, c.branches.ensures.few, c.requires.few);
-        scale = simp (simp to_z-of_z at c.unsigned-abs-in-Leaf.ensures.value) at.fits.scale;
+        scale = simp (simp to_z-of_z at c.unsigned_abs-in-Leaf.ensures.value) at.fits.scale;
         potentials = at.fits.potentials;
         multipliers = at.fits.multipliers;
       };
       small = c.requires.small;
     }
 
-pub returns-in-err-judge-leaf : goal.returns-in-err-judge-leaf
-returns-in-err-judge-leaf g c t fits is =
+pub returns-in_err-judge_leaf-in-Leaf : goal.returns-in_err-judge_leaf-in-Leaf
+returns-in_err-judge_leaf-in-Leaf g c t fits is =
     let at = at_record c.loop-record.path c.loop-record.invariant.1 c.in-Some.record
     (leaf_record c.in-Leaf.scale c.in-Leaf.potentials.now c.in-Leaf.multipliers.now) c.in-Some.next.now
     c.in-Some.ensures (ap held c.in-Leaf.is) in
     let f : SFits w32 c.in-Leaf.scale = search rules in
     let same = leaf_same (g.T.Tariff.le c.args.tariff.now) (g.T.Tariff.unit c.args.tariff.now) (task_of c.args.task) (pair c.args.claimed) c.loop-record.path c.branches.result.now
-    c.loop-record.count c.unsigned-abs-in-Leaf.result c.in-Leaf.scale c.in-Leaf.potentials.now c.in-Leaf.multipliers.now c.branches.ensures.value
-    (simp to_z-of_z at c.unsigned-abs-in-Leaf.ensures.value) in
-    let p = err_from_is_err_and c.from-residual.result c.from-residual.ensures.1 in
-    let found = at.failed c.in-err-judge-leaf.field-0.0 (same ∙ sym c.in-err-judge-leaf.ensures) in
+    c.loop-record.count c.unsigned_abs-in-Leaf.result c.in-Leaf.scale c.in-Leaf.potentials.now c.in-Leaf.multipliers.now c.branches.ensures.value
+    (simp to_z-of_z at c.unsigned_abs-in-Leaf.ensures.value) in
+    let p = err_from_is_err_and c.from_residual.result c.from_residual.ensures.1 in
+    let found = at.failed c.in_err-judge_leaf-in-Leaf.field-0.0 (same ∙ sym c.in_err-judge_leaf-in-Leaf.ensures) in
     p.1 ∙ ap Err p.2 ∙ sym found
     ∙ ap (tree_answer (g.T.Tariff.le c.args.tariff.now) (g.T.Tariff.unit c.args.tariff.now) (task_of c.args.task) (pair c.args.claimed))
     (one_spelling 12 c.args.nodes (length c.args.task.rows.now) c.loop-record.invariant.0.of t c.args.list.now c.loop-record.invariant.0.fits fits c.loop-record.invariant.0.is is)
@@ -62,8 +62,8 @@ loop-record-preserved-in-Split g c =
     let e : SFits w32 c.in-Split.edge = search rules in
     let at = at_record c.loop-record.path c.loop-record.invariant.1 c.in-Some.record (split_record c.in-Split.edge c.in-Split.most) c.in-Some.next.now
     c.in-Some.ensures (ap held c.in-Split.is) in
-    let a : c.unsigned-abs.result ≡ nat_abs c.in-Split.edge = simp to_z-of_z at c.unsigned-abs.ensures.value in
-    let b : c.unsigned-abs-in-Split.result ≡ nat_abs c.in-Split.most = simp to_z-of_z at c.unsigned-abs-in-Split.ensures.value in
+    let a : c.unsigned_abs.result ≡ nat_abs c.in-Split.edge = simp to_z-of_z at c.unsigned_abs.ensures.value in
+    let b : c.unsigned_abs-in-Split.result ≡ nat_abs c.in-Split.most = simp to_z-of_z at c.unsigned_abs-in-Split.ensures.value in
     (c.loop-record.invariant.0, moved _ (branches_of c.push.new.self) (sym (c.push.ensures ∙ (λ i. branches_of c.loop-record.path ++ (first_of (a i) (b i) ∷ [])))) at.passed)
 
 pub loop-record-smaller : goal.loop-record-smaller
@@ -79,12 +79,12 @@ loop-record-preserved g c =
     c.in-Some.ensures (ap held c.in-Leaf.is) in
     let f : SFits w32 c.in-Leaf.scale = search rules in
     let same = leaf_same (g.T.Tariff.le c.args.tariff.now) (g.T.Tariff.unit c.args.tariff.now) (task_of c.args.task) (pair c.args.claimed) c.loop-record.path c.branches.result.now
-    c.loop-record.count c.unsigned-abs-in-Leaf.result c.in-Leaf.scale c.in-Leaf.potentials.now c.in-Leaf.multipliers.now c.branches.ensures.value
-    (simp to_z-of_z at c.unsigned-abs-in-Leaf.ensures.value) in
-    (c.loop-record.invariant.0, moved _ (branches_of c.onward.new.self) (sym c.onward.ensures) (at.passed (same ∙ sym c.in-ok-judge-leaf.ensures)))
+    c.loop-record.count c.unsigned_abs-in-Leaf.result c.in-Leaf.scale c.in-Leaf.potentials.now c.in-Leaf.multipliers.now c.branches.ensures.value
+    (simp to_z-of_z at c.unsigned_abs-in-Leaf.ensures.value) in
+    (c.loop-record.invariant.0, moved _ (branches_of c.onward.new.self) (sym c.onward.ensures) (at.passed (same ∙ sym c.in_ok-judge_leaf-in-Leaf.ensures)))
 
 pub returns : goal.returns
 returns g c t fits is =
-    at_end c.loop-record.path c.loop-record.invariant.1 c.in-default.ensures
+    at_end c.loop-record.path c.loop-record.invariant.1 c.in_default.ensures
     ∙ ap (tree_answer (g.T.Tariff.le c.args.tariff.now) (g.T.Tariff.unit c.args.tariff.now) (task_of c.args.task) (pair c.args.claimed))
     (one_spelling 12 c.args.nodes (length c.args.task.rows.now) c.loop-record.invariant.0.of t c.args.list.now c.loop-record.invariant.0.fits fits c.loop-record.invariant.0.is is)

@@ -5,11 +5,11 @@ use Rattle.walk.proofs.exits.exit_of.Goals as goal
 
 pub loop-x-preserved : goal.loop-x-preserved
 loop-x-preserved c = λ end right. below_more (λ y. leads_nearer c.args.edges.now c.args.turns.now end c.args.node y ≡ false) c.loop-x.x (c.loop-x.invariant end right)
-    (sym (nearer_same c.args.edges.now c.args.turns.now end c.args.node c.args.far.now c.loop-x.x right c.is-nearer.ensures.low c.requires.node) ∙ sym c.is-nearer.ensures.answer ∙ c.if-is-nearer.false)
+    (sym (nearer_same c.args.edges.now c.args.turns.now end c.args.node c.args.far.now c.loop-x.x right c.is_nearer.ensures.low c.requires.node) ∙ sym c.is_nearer.ensures.answer ∙ c.if-is_nearer.false)
 
-pub returns-then-is-nearer : goal.returns-then-is-nearer
-returns-then-is-nearer c = λ end right. exit_found c.args.edges.now c.args.turns.now end c.args.node c.loop-x.x (omega arith)
-    (sym (nearer_same c.args.edges.now c.args.turns.now end c.args.node c.args.far.now c.loop-x.x right c.is-nearer.ensures.low c.requires.node) ∙ sym c.is-nearer.ensures.answer ∙ c.if-is-nearer.true)
+pub returns-then-is_nearer : goal.returns-then-is_nearer
+returns-then-is_nearer c = λ end right. exit_found c.args.edges.now c.args.turns.now end c.args.node c.loop-x.x (omega arith)
+    (sym (nearer_same c.args.edges.now c.args.turns.now end c.args.node c.args.far.now c.loop-x.x right c.is_nearer.ensures.low c.requires.node) ∙ sym c.is_nearer.ensures.answer ∙ c.if-is_nearer.true)
     (c.loop-x.invariant end right)
 
 pub returns : goal.returns

@@ -8,10 +8,10 @@ loop-node-init c = (length-replicate {A = ℕ} 256 0, λ w h. absurd (not-suc-le
 
 pub loop-node-preserved : goal.loop-node-preserved
 loop-node-preserved c = (
-  length-set c.loop-node.exits c.loop-node.node c.exit-of.result ∙ c.loop-node.invariant.0,
-  below_more (λ w. get_or (set c.loop-node.exits c.loop-node.node c.exit-of.result) w 0 ≡ last_exit c.args.edges.now c.args.turns.now c.args.end w) c.loop-node.node
-      (λ w h. get_or-set_other c.loop-node.exits c.loop-node.node w c.exit-of.result 0 (λ e. omega arith) ∙ c.loop-node.invariant.1 w h)
-      (get_or-set_same c.loop-node.exits c.loop-node.node c.exit-of.result 0 (omega (arith, c.loop-node.invariant.0)) ∙ c.exit-of.ensures c.args.end c.distances-far.ensures),
+  length-set c.loop-node.exits c.loop-node.node c.exit_of.result ∙ c.loop-node.invariant.0,
+  below_more (λ w. get_or (set c.loop-node.exits c.loop-node.node c.exit_of.result) w 0 ≡ last_exit c.args.edges.now c.args.turns.now c.args.end w) c.loop-node.node
+      (λ w h. get_or-set_other c.loop-node.exits c.loop-node.node w c.exit_of.result 0 (λ e. omega arith) ∙ c.loop-node.invariant.1 w h)
+      (get_or-set_same c.loop-node.exits c.loop-node.node c.exit_of.result 0 (omega (arith, c.loop-node.invariant.0)) ∙ c.exit_of.ensures c.args.end c.distances-far.ensures),
 )
 
 pub returns : goal.returns
