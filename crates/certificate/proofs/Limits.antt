@@ -1,7 +1,7 @@
 -- A run within the limit of each row is charged no more than the limits are.
 use Rattle.std.proofs.Common.{◌≡◌, ℕ, zero as none, suc, ◌+◌, ◌<◌, ◌≤◌, Bool, true, false, cond, T, eqb, List, [], ◌∷◌, map, length, get_or, ℤ, pos, negsuc, ◌+ℤ◌, ◌-ℤ◌, neg_ℤ, ◌≤ℤ◌, sym, refl, ap, ◌∙◌, subst, subst₂, arith}
 use borrow.Author.Differences.{ints}
-use Rattle.std.specs.List.{AllByRecursion as All}
+use Rattle.std.specs.List.{AllByRecursion}
 use Rattle.std.proofs.ByRecursion.{All-map, All-weaker}
 use Rattle.price.specs.Laws.{Laws}
 use Rattle.price.specs.Pairs.{Pair, zero, times}
@@ -38,7 +38,7 @@ along_is : (es : List Edge) (row : Row) (run : List ℕ) → coefficients_along 
 along_is es row [] = refl
 along_is es row (x ∷ run) = ap (λ z. (case_line es row).of_edge x +ℤ z) (along_is es row run)
 
-pub rows_hold : (es : List Edge) (rows : List Row) (run : List ℕ) → KeepsAll es rows run → All (Holds run) (map (case_line es) rows)
+pub rows_hold : (es : List Edge) (rows : List Row) (run : List ℕ) → KeepsAll es rows run → AllByRecursion (Holds run) (map (case_line es) rows)
 rows_hold es rows run k =
     All-map (Holds run) (case_line es) rows
     (All-weaker (Keeps es (turns_in es run)) (λ row. Holds run (case_line es row)) one rows k.keeps)
@@ -95,7 +95,7 @@ module _ {le : Pair → Pair → Bool} {unit : Pair} (laws : Laws le unit) where
   one_row AtMost sum limit m t h = more sum limit m t h
   one_row Equal sum limit m t h = subst (λ z. T (le (times sum m) (times z m))) h (le_refl laws (times sum m))
 
-  pub all_rows : (run : List ℕ) (lines : List Line) (ms : List Pair) → ((i : ℕ) → i < length lines → T (sign_ok le (get_or lines i no_line).relation (get_or ms i zero))) → All (Holds run) lines →
+  pub all_rows : (run : List ℕ) (lines : List Line) (ms : List Pair) → ((i : ℕ) → i < length lines → T (sign_ok le (get_or lines i no_line).relation (get_or ms i zero))) → AllByRecursion (Holds run) lines →
       T (le (charge (λ r. places r.of_edge run) lines ms) (charge (λ r. r.limit) lines ms))
   all_rows run [] ms signs h = le_refl laws zero
   all_rows run (r ∷ rs) [] signs h = le_refl laws zero

@@ -1,6 +1,6 @@
 -- What the answers mean.
 use Rattle.std.proofs.Common.{◌≡◌, ℕ, suc, ◌+◌, Bool, true, false, not, T, ◌⊎◌, List, [], ◌∷◌, ◌++◌, length, ℤ, Some, None, Ok, Option, sym, refl, ap, ◌∙◌, subst, inl, inr, arith}
-use Rattle.std.specs.List.{AllByRecursion as All}
+use Rattle.std.specs.List.{AllByRecursion}
 use Rattle.std.proofs.ByRecursion.{All-from_get_or}
 use Rattle.price.specs.Pairs.{Pair}
 use Rattle.price.specs.Questions.{ask}
@@ -64,11 +64,11 @@ module _ (le : Pair → Pair → Bool) (unit : Pair) (task : Task) (c : Pair) wh
     lines : List Line
     l : Leaf
     is : xs ≡ passed ++ ((lines, l) ∷ rest)
-    before_it : All Passing passed
+    before_it : AllByRecursion Passing passed
     fails : Fails le unit task c lines l (n + length passed) answer
 
   abbrev Leaves : ℕ → List (List Line × Leaf) → Answer → Type 0
-  Leaves n xs a = ((a ≡ Ok tt) × All Passing xs) ⊎ OneFails n xs a
+  Leaves n xs a = ((a ≡ Ok tt) × AllByRecursion Passing xs) ⊎ OneFails n xs a
 
   one_more : (n : ℕ) (x : List Line × Leaf) (xs : List (List Line × Leaf)) (a : Answer) → Passing x → Leaves (n + 1) xs a → Leaves n (x ∷ xs) a
   one_more n x xs a ok (inl f) = inl (f.0, (ok, f.1))

@@ -5,7 +5,7 @@ use Rattle.price.specs.Pairs.{Pair}
 use Rattle.price.specs.Questions.{ask}
 use Rattle.price.specs.declared.refusals.Refusal.{Refusal}
 use Rattle.price.specs.declared.refusals.Refusal.TheVariants.{EdgesFull, RowsFull, PriceRange}
-use Rattle.std.specs.List.{AllByRecursion as All}
+use Rattle.std.specs.List.{AllByRecursion}
 use Rattle.std.proofs.lemmas.Bool.{leb-true, leb-false}
 use Rattle.task.specs.Coefficients.{in_range}
 use Rattle.certificate.specs.Judged.{InRange, Judged, Passes, edges_full, rows_full, price_range, of_list, not_one_tree, out_of_range, leaf_fails, proved, Fails, sign, allowance, bound}
@@ -49,7 +49,7 @@ module _ (le : Pair → Pair → Bool) (unit : Pair) (task : Task) (c : Pair) (t
   fails_refused (bound e s a f) q = refused e q
 
   -- an answer that accepts proves what a tree whose leaves all pass proves
-  accepted : {P : Type 0} {a : Answer} → ((t : Tree) → InRange task top t → All (λ x. Passes le unit task c x.0 x.1) (leaves (case_lines task) t) → P) →
+  accepted : {P : Type 0} {a : Answer} → ((t : Tree) → InRange task top t → AllByRecursion (λ x. Passes le unit task c x.0 x.1) (leaves (case_lines task) t) → P) →
       Judged le unit task c top xs a → a ≡ Ok tt → P
   accepted proves (edges_full e h) q = refused e q
   accepted proves (rows_full e h k) q = refused e q

@@ -2,7 +2,7 @@
 use Rattle.std.proofs.Common.{◌≡◌, ℕ, ◌<◌, ◌≤◌, Bool, T, leb, ◌⊎◌, List, [], ◌∷◌, ◌++◌, length, pos, nat_abs, sym, ◌∙◌, subst, subst₂, inl, inr, arith, leb→le}
 use borrow.Author.Differences.{ints}
 use lib.Dec.{nleb→lt}
-use Rattle.std.specs.List.{AllByRecursion as All}
+use Rattle.std.specs.List.{AllByRecursion}
 use Rattle.std.proofs.ByRecursion.{All-push}
 use Rattle.price.specs.Laws.{Laws, cheaper}
 use Rattle.price.specs.Pairs.{Pair, zero, ◌⊕◌, ◌⊖◌, times}
@@ -24,11 +24,11 @@ use Rattle.certificate.proofs.Bounds.{limited}
 use Rattle.certificate.proofs.Limits.{Holds, rows_hold, at_most_holds, at_least_holds, all_rows}
 use Rattle.certificate.proofs.Walks.{places, walk}
 
-all_front : {X : Type 0} (P : X → Type 0) (xs ys : List X) → All P (xs ++ ys) → All P xs
+all_front : {X : Type 0} (P : X → Type 0) (xs ys : List X) → AllByRecursion P (xs ++ ys) → AllByRecursion P xs
 all_front P [] ys h = tt
 all_front P (x ∷ xs) ys h = (h.0, all_front P xs ys h.1)
 
-all_behind : {X : Type 0} (P : X → Type 0) (xs ys : List X) → All P (xs ++ ys) → All P ys
+all_behind : {X : Type 0} (P : X → Type 0) (xs ys : List X) → AllByRecursion P (xs ++ ys) → AllByRecursion P ys
 all_behind P [] ys h = h
 all_behind P (x ∷ xs) ys h = all_behind P xs ys h.1
 
@@ -41,10 +41,10 @@ module _ {le : Pair → Pair → Bool} {unit : Pair} (laws : Laws le unit) (task
   price = prices_along task.edges run
 
   abbrev Leaves : Tree → List Line → Type 0
-  Leaves t lines = All (λ x. Passes le unit task c x.0 x.1) (leaves lines t)
+  Leaves t lines = AllByRecursion (λ x. Passes le unit task c x.0 x.1) (leaves lines t)
 
   -- D times the price of the run is within the leaf's bound
-  within : (lines : List Line) (l : Leaf) → Passes le unit task c lines l → All (Holds run) lines → T (le (times (pos l.scale) price) (bound task.start task.end lines l))
+  within : (lines : List Line) (l : Leaf) → Passes le unit task c lines l → AllByRecursion (Holds run) lines → T (le (times (pos l.scale) price) (bound task.start task.end lines l))
   unfolding price
   within lines l ok holds =
       let ends : Pair = potential l task.start ⊖ potential l task.end in
@@ -54,7 +54,7 @@ module _ {le : Pair → Pair → Bool} {unit : Pair} (laws : Laws le unit) (task
       (laws.add ends ends charged (charge (λ r. r.limit) lines l.multipliers) (le_refl laws ends) (all_rows laws run lines l.multipliers ok.signs holds))
 
   -- with D = 0 the bound is no less than (0, 0) and cheaper
-  leaf_void : (lines : List Line) (l : Leaf) → l.scale ≡ 0 → Passes le unit task c lines l → All (Holds run) lines → ⊥
+  leaf_void : (lines : List Line) (l : Leaf) → l.scale ≡ 0 → Passes le unit task c lines l → AllByRecursion (Holds run) lines → ⊥
   leaf_void lines l z ok holds =
       let nothing : (a : Pair) → times (pos l.scale) a ≡ zero = λ a. (λ i. times (pos (z i)) a) ∙ no_times a in
       no_bound laws (bound task.start task.end lines l)
@@ -62,13 +62,13 @@ module _ {le : Pair → Pair → Bool} {unit : Pair} (laws : Laws le unit) (task
       (subst (λ x. T (cheaper le (bound task.start task.end lines l) x)) (nothing (c ⊕ unit)) ok.under)
 
   -- a run turns the edge of a split at most m times or more often, and keeps that row
-  by_side : {A : Type 0} (e m : ℕ) (lines : List Line) → All (Holds run) lines → (All (Holds run) (lines ++ (at_most e m ∷ [])) → A) → (All (Holds run) (lines ++ (at_least e m ∷ [])) → A) → A
+  by_side : {A : Type 0} (e m : ℕ) (lines : List Line) → AllByRecursion (Holds run) lines → (AllByRecursion (Holds run) (lines ++ (at_most e m ∷ [])) → A) → (AllByRecursion (Holds run) (lines ++ (at_least e m ∷ [])) → A) → A
   by_side e m lines holds low high = elim (sides (turns e run) m) [
     | inl h ↦ low (All-push (Holds run) lines (at_most e m) holds (at_most_holds e m run h))
     | inr h ↦ high (All-push (Holds run) lines (at_least e m) holds (at_least_holds e m run h))
   ]
 
-  tree_claim : (t : Tree) (lines : List Line) → Leaves t lines → All (Holds run) lines → T (le price c)
+  tree_claim : (t : Tree) (lines : List Line) → Leaves t lines → AllByRecursion (Holds run) lines → T (le price c)
   tree_claim (leaf d ps ms) lines ok holds =
       within_bound laws (nat_abs d) price c (bound task.start task.end lines (leaf_of d ps ms)) (within lines (leaf_of d ps ms) ok.0 holds) ok.0.under
   tree_claim (split e m a b) lines ok holds =
@@ -79,7 +79,7 @@ module _ {le : Pair → Pair → Bool} {unit : Pair} (laws : Laws le unit) (task
       (tree_claim b high (all_behind _ (leaves low a) (leaves high b) ok))
 
   -- D is 0 in every leaf
-  tree_void : (edges : ℕ) (t : Tree) (lines : List Line) → All (λ b. T b) (tests edges (pos 0) t) → Leaves t lines → All (Holds run) lines → ⊥
+  tree_void : (edges : ℕ) (t : Tree) (lines : List Line) → AllByRecursion (λ b. T b) (tests edges (pos 0) t) → Leaves t lines → AllByRecursion (Holds run) lines → ⊥
   tree_void edges (leaf d ps ms) lines near! ok holds =
       let small : nat_abs d ≤ 0 = limited (pos 0) d 0 (omega (arith, ints)) (sym (is_yes (inside (pos 0) (pos 0) d) near!.1.0)) in
       leaf_void lines (leaf_of d ps ms) (omega arith) ok.0 holds
@@ -91,7 +91,7 @@ module _ {le : Pair → Pair → Bool} {unit : Pair} (laws : Laws le unit) (task
       (tree_void edges a low (all_front _ (tests edges (pos 0) a) (tests edges (pos 0) b) rest) (all_front _ (leaves low a) (leaves high b) ok))
       (tree_void edges b high (all_behind _ (tests edges (pos 0) a) (tests edges (pos 0) b) rest) (all_behind _ (leaves low a) (leaves high b) ok))
 
-module _ {le : Pair → Pair → Bool} {unit : Pair} (laws : Laws le unit) (task : Task) (c : Pair) (t : Tree) (ok : All (λ x. Passes le unit task c x.0 x.1) (leaves (case_lines task) t)) (two : Between task) where
+module _ {le : Pair → Pair → Bool} {unit : Pair} (laws : Laws le unit) (task : Task) (c : Pair) (t : Tree) (ok : AllByRecursion (λ x. Passes le unit task c x.0 x.1) (leaves (case_lines task) t)) (two : Between task) where
   -- a run leads from the start to the end
   leads : (run : List ℕ) → KeepsAll task.edges task.rows run → Path task.edges task.start task.end run
   leads run k =

@@ -3,7 +3,7 @@ use Rattle.std.specs.Prelude.{◌≡◌, ℕ, ◌^◌, ◌<◌, ◌≤◌, Bool,
 use Rattle.price.specs.Pairs.{Pair}
 use Rattle.price.specs.Ranges.{Both}
 use Rattle.price.specs.declared.refusals.Refusal.TheVariants.{EdgesFull, RowsFull, PriceRange, NotOneTree, TreeRange, MultiplierSign, AllowanceShort, BoundTooHigh}
-use Rattle.std.specs.List.{AllByRecursion as All}
+use Rattle.std.specs.List.{AllByRecursion}
 use Rattle.task.specs.Graph.{no_edge}
 use Rattle.task.specs.Sides.{node_count}
 use Rattle.certificate.specs.LeafTests.{row_ok, edge_ok, bound_ok}
@@ -28,7 +28,7 @@ SpelledBy task xs t = Spells (node_count task.edges) (length task.rows) xs t
 
 -- its numbers are all in range, and D is at most `top`
 abbrev pub InRange : Task → ℤ → Tree → Type 0
-InRange task top t = All (λ b. T b) (tests (length task.edges) top t)
+InRange task top t = AllByRecursion (λ b. T b) (tests (length task.edges) top t)
 
 module _ (le : Pair → Pair → Bool) (task : Task) where
   -- every sign of a leaf passes, and every edge
@@ -58,9 +58,9 @@ module _ (le : Pair → Pair → Bool) (unit : Pair) (task : Task) (c : Pair) wh
         (place : ℕ) → answer ≡ Err (TreeRange place) → LowestFailing (λ i b. b) true (tests (length task.edges) top t) place → OfList top xs answer
     leaf_fails : (t : Tree) → SpelledBy task xs t → InRange task top t →
         (passed rest : List (List Line × Leaf)) (lines : List Line) (l : Leaf) → leaves (case_lines task) t ≡ passed ++ ((lines, l) ∷ rest) →
-        All (λ x. Passes x.0 x.1) passed → Fails lines l (length passed) answer → OfList top xs answer
+        AllByRecursion (λ x. Passes x.0 x.1) passed → Fails lines l (length passed) answer → OfList top xs answer
     proved : answer ≡ Ok tt → (t : Tree) → SpelledBy task xs t → InRange task top t →
-        All (λ x. Passes x.0 x.1) (leaves (case_lines task) t) → OfList top xs answer
+        AllByRecursion (λ x. Passes x.0 x.1) (leaves (case_lines task) t) → OfList top xs answer
 
   pub data Judged (top : ℤ) (xs : List ℤ) (answer : Answer) : Type 0 where
     edges_full : answer ≡ Err EdgesFull → 64 < length task.edges → Judged top xs answer

@@ -1,7 +1,7 @@
 -- The readers of lists take just what is written of a list.
 use Rattle.std.proofs.Common.{◌≡◌, ℕ, zero, suc, ◌≤◌, List, [], ◌∷◌, ◌++◌, length, ℤ, Some, None, decimal, Option, refl, ap, ◌∙◌, append_assoc, arith}
 use Rattle.std.specs.Fmt.{signed_decimal}
-use Rattle.std.specs.List.{AllByRecursion as All}
+use Rattle.std.specs.List.{AllByRecursion}
 use Rattle.grammar.specs.Options.{and_then}
 use Rattle.grammar.specs.Numbers.{natural_front, integer_front, natural_after, integer_after}
 use Rattle.grammar.specs.Reading.{naturals_front, integers_in}
@@ -19,7 +19,7 @@ one_integer = reads_after integer_front signed_decimal Integer reads_integer
 -- just so many naturals
 
 abbrev FoundNaturals : ℕ → List ℕ → List ℕ × List ℕ → Type 0
-FoundNaturals n text p = (naturals p.0 ++ p.1 ≡ text) × All Natural p.0 × (length p.0 ≡ n)
+FoundNaturals n text p = (naturals p.0 ++ p.1 ≡ text) × AllByRecursion Natural p.0 × (length p.0 ≡ n)
 
 module _ (k : ℕ) (text : List ℕ) (p : List ℕ × List ℕ)
     (more : (text : List ℕ) (p : List ℕ × List ℕ) → naturals_front k text ≡ Some p →
@@ -52,7 +52,7 @@ pub ends_naturals : (ns rest : List ℕ) → Ends rest → Ends (naturals ns ++ 
 ends_naturals [] rest ends = ends
 ends_naturals (n ∷ ns) rest ends = refl
 
-pub naturals_complete : (ns rest : List ℕ) → All Natural ns → Ends rest → naturals_front (length ns) (naturals ns ++ rest) ≡ Some (ns, rest)
+pub naturals_complete : (ns rest : List ℕ) → AllByRecursion Natural ns → Ends rest → naturals_front (length ns) (naturals ns ++ rest) ≡ Some (ns, rest)
 naturals_complete [] rest small ends = refl
 naturals_complete (n ∷ ns) rest small ends =
     ap (λ ts. naturals_front (suc (length ns)) (32 ∷ ts)) (append_assoc (decimal n) (naturals ns) rest)
@@ -63,7 +63,7 @@ naturals_complete (n ∷ ns) rest small ends =
 -- integers up to the end
 
 abbrev FoundIntegers : ℕ → List ℕ → List ℤ → Type 0
-FoundIntegers room text zs = (integers zs ≡ text) × All Integer zs × (length zs ≤ room)
+FoundIntegers room text zs = (integers zs ≡ text) × AllByRecursion Integer zs × (length zs ≤ room)
 
 module _ (room c : ℕ) (cs : List ℕ) (zs : List ℤ)
     (more : (text : List ℕ) (zs : List ℤ) → integers_in room text ≡ Some zs → FoundIntegers room text zs) where
@@ -94,7 +94,7 @@ pub ends_integers : (zs : List ℤ) → Ends (integers zs)
 ends_integers [] = tt
 ends_integers (z ∷ zs) = refl
 
-pub integers_complete : (room : ℕ) (zs : List ℤ) → All Integer zs → length zs ≤ room → integers_in room (integers zs) ≡ Some zs
+pub integers_complete : (room : ℕ) (zs : List ℤ) → AllByRecursion Integer zs → length zs ≤ room → integers_in room (integers zs) ≡ Some zs
 integers_complete room [] small long = refl
 integers_complete zero (z ∷ zs) small long = absurd (omega arith)
 integers_complete (suc room) (z ∷ zs) small long =

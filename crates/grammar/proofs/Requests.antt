@@ -1,6 +1,6 @@
 -- A line is read as a request exactly if the request is spelled so.
 use Rattle.std.proofs.Common.{◌≡◌, ℕ, ◌+◌, ◌-◌, ◌≤◌, Bool, true, false, cond, eqb, leb, List, [], ◌∷◌, ◌++◌, length, get_or, ℤ, Some, None, codes, decimal, Option, sym, refl, ap, ◌∙◌, append_assoc, arith}
-use Rattle.std.specs.List.{AllByRecursion as All}
+use Rattle.std.specs.List.{AllByRecursion}
 use Rattle.std.proofs.lemmas.List.{append-nil, nil_from_length}
 use Rattle.std.proofs.lemmas.Bool.{cond-true, eqb-true, le-leb, leb-true}
 use Rattle.grammar.specs.Options.{and_then}
@@ -17,7 +17,7 @@ Right line q = Within q × (spelled q ≡ line)
 
 -- from a reader to the requests
 
-five : (text : List ℕ) (ns rest : List ℕ) → naturals ns ++ rest ≡ text → All Natural ns → length ns ≡ 5 → length rest ≡ 0 →
+five : (text : List ℕ) (ns rest : List ℕ) → naturals ns ++ rest ≡ text → AllByRecursion Natural ns → length ns ≡ 5 → length rest ≡ 0 →
     Right (codes "edge" ++ text) (edge (get_or ns 0 0) (get_or ns 1 0) (get_or ns 2 0) (get_or ns 3 0) (get_or ns 4 0))
 five text (a ∷ b ∷ c ∷ d ∷ e ∷ []) [] is small h z = (small, ap (λ ts. codes "edge" ++ ts) (sym (append-nil (naturals (a ∷ b ∷ c ∷ d ∷ e ∷ []))) ∙ is))
 five text ns (x ∷ rest) is small h z = absurd (omega arith)
@@ -116,7 +116,7 @@ word_sound line q =
 
 -- from a request to what is read
 
-claim_complete : (turns : List ℕ) (tree : List ℤ) → All Natural turns → All Integer tree → 1 + length turns + length tree ≤ 512 →
+claim_complete : (turns : List ℕ) (tree : List ℤ) → AllByRecursion Natural turns → AllByRecursion Integer tree → 1 + length turns + length tree ≤ 512 →
     claim_in (naturals (length turns ∷ turns) ++ integers tree) ≡ Some (claim turns tree)
 claim_complete turns tree small small' few =
     ap (λ ts. claim_in (32 ∷ ts)) (append_assoc (decimal (length turns)) (naturals turns) (integers tree))

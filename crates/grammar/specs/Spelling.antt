@@ -1,7 +1,7 @@
 -- How the requests of a case are spelled on a line.
 use Rattle.std.specs.Prelude.{◌≡◌, ℕ, ◌+◌, ◌<◌, ◌≤◌, List, [], ◌∷◌, ◌++◌, length, ℤ, pos, neg_ℤ, ◌≤ℤ◌, ◌<ℤ◌, codes, decimal}
 use Rattle.std.specs.Fmt.{signed_decimal}
-use Rattle.std.specs.List.{AllByRecursion as All}
+use Rattle.std.specs.List.{AllByRecursion}
 use Rattle.judge.specs.Calls.{Request, edge, row, seal, claim, void}
 
 -- each number after one blank, in decimal
@@ -29,11 +29,11 @@ Integer z = (neg_ℤ (pos 2147483648) ≤ℤ z) × (z <ℤ pos 2147483648)
 
 -- each number has 32 bits, and there are at most 512 of them, the count of turns among them
 abbrev pub Within : Request → Type 0
-Within (edge tail head block cycles reads) = All Natural (tail ∷ head ∷ block ∷ cycles ∷ reads ∷ [])
-Within (row relation k coefficients) = All Integer (relation ∷ k ∷ coefficients) × (2 + length coefficients ≤ 512)
+Within (edge tail head block cycles reads) = AllByRecursion Natural (tail ∷ head ∷ block ∷ cycles ∷ reads ∷ [])
+Within (row relation k coefficients) = AllByRecursion Integer (relation ∷ k ∷ coefficients) × (2 + length coefficients ≤ 512)
 Within seal = Unit {0}
-Within (claim turns tree) = All Natural turns × All Integer tree × (1 + length turns + length tree ≤ 512)
-Within (void tree) = All Integer tree × (length tree ≤ 512)
+Within (claim turns tree) = AllByRecursion Natural turns × AllByRecursion Integer tree × (1 + length turns + length tree ≤ 512)
+Within (void tree) = AllByRecursion Integer tree × (length tree ≤ 512)
 
 -- the line is of the form: it is what the request is spelled as
 abbrev pub Spells : Request → List ℕ → Type 0

@@ -1,6 +1,6 @@
 // The number at the front of a text.
 ghost use Rattle.std.specs.Prelude.{◌≡◌};
-ghost use Rattle.grammar.specs.Numbers.{digit as digit-of, with_digit, digits_on, natural_front};
+ghost use Rattle.grammar.specs.Numbers.{digit as digit_of, with_digit, digits_on, natural_front};
 ghost use Rattle.grammar.specs.Numbers.{natural_after, integer_after};
 ghost use Rattle.grammar.specs.Numbers.{positive as positive_of, negative as negative_of, integer_front, after as after_mark};
 ghost use Rattle.grammar.specs.Options.{held};
@@ -8,7 +8,7 @@ ghost use Rattle.std.specs.Option.{option_map};
 
 // The value of a digit.
 fn digit(byte: u8) -> Option<u32>
-    ensures { result ≡ digit-of byte }
+    ensures { result ≡ digit_of byte }
 {
     match byte {
         b'0'..=b'9' => Some((byte - b'0') as u32),

@@ -1,6 +1,6 @@
 // The call of a line.
 ghost use Rattle.std.specs.Prelude.{◌≡◌, Some};
-ghost use Rattle.grammar.specs.Reading.{edge_in, row_in, claim_in, void_in, alone as alone-in, request_in};
+ghost use Rattle.grammar.specs.Reading.{edge_in, row_in, claim_in, void_in, alone as alone_in, request_in};
 ghost use Rattle.grammar.specs.Spelling.{Spells};
 ghost use Rattle.judge.specs.Calls.{Request, request};
 ghost use Rattle.std.specs.Option.{option_map};
@@ -67,7 +67,7 @@ fn void<'a>(text: &[u8], table: &'a mut [i32; 512]) -> Option<Call<'a>>
 
 // A call without numbers.
 fn alone<'a>(call: Call<'a>, text: &[u8]) -> Option<Call<'a>>
-    ensures { option_map request result ≡ alone-in (request call.entry) text.now }
+    ensures { option_map request result ≡ alone_in (request call.entry) text.now }
 {
     if text.is_empty() { Some(call) } else { None }
 }

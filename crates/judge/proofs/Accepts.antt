@@ -1,7 +1,7 @@
 -- What an accepted claim and an accepted void claim say.
 use Rattle.std.proofs.Common.{◌≡◌, ℕ, Bool, true, false, List, ℤ, pos, IfOk, Ok, Err, sum, Result, sym, refl, ap, ◌∙◌, subst, arith}
 use Rattle.std.proofs.lemmas.Bool.Decides.{nat_tests}
-use Rattle.std.specs.List.{AllByRecursion as All}
+use Rattle.std.specs.List.{AllByRecursion}
 use Rattle.price.specs.Laws.{Laws}
 use Rattle.price.specs.Pairs.{Pair, zero}
 use Rattle.price.specs.Prices.{pair}
@@ -15,7 +15,7 @@ use Rattle.task.specs.Sound.{Sound}
 use Rattle.task.specs.Turns.{price_of}
 use Rattle.task.specs.TurnsAnswer.{turns_answer}
 use Rattle.task.specs.declared.edges.Edge.{Edge}
-use Rattle.task.proofs.Checks.{answers, exactly as exactly-sound}
+use Rattle.task.proofs.Checks.{answers, exactly as exactly_sound}
 use Rattle.task.proofs.Flows.{claims}
 use Rattle.task.proofs.Seals.{answer_says, exactly}
 use Rattle.certificate.specs.Soundness.{NoneDearer}
@@ -53,7 +53,7 @@ module _ (le : Pair → Pair → Bool) (unit : Pair) (laws : Laws le unit) (es :
   between ts xs s e p ends is =
       let task = task_between es rows s e in
       let passed = both (turns_answer es rows s e ts) (verdicts.price_answer le unit task (price_of es ts) xs) (price_of es ts) p is in
-      let sound = (exactly-sound es rows s e ts (turns_answer es rows s e ts) (answers es rows s e ts (turns_answer es rows s e ts) refl)).0 passed.0 in
+      let sound = (exactly_sound es rows s e ts (turns_answer es rows s e ts) (answers es rows s e ts (turns_answer es rows s e ts) refl)).0 passed.0 in
       let none_dearer = price_sound le unit task (price_of es ts) (pos 1000) xs laws _ (judged le unit task (price_of es ts) (pos 1000) xs) passed.1 (record { start = ends.start; end = ends.end }) in
       let whole = (walk_stands es s e ts ends (claims es rows s e ts sound ends)).whole in
       record {
@@ -63,7 +63,7 @@ module _ (le : Pair → Pair → Bool) (unit : Pair) (laws : Laws le unit) (es :
         sound = sound;
         price = sym passed.2;
         run = walk es (next es ts e) (sum ts) ts s;
-        keeps = record { is_run = whole.is_run; keeps = subst (λ turns. All (Keeps es turns) rows) (sym whole.exact) sound.keeps };
+        keeps = record { is_run = whole.is_run; keeps = subst (λ turns. AllByRecursion (Keeps es turns) rows) (sym whole.exact) sound.keeps };
         claimed = whole.exact;
         has_price = ap (price_of es) whole.exact ∙ passed.2;
         none_dearer = subst (NoneDearer le task) passed.2 none_dearer;

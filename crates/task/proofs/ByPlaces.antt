@@ -4,7 +4,7 @@ use borrow.Author.Differences.{ints}
 use Rattle.price.specs.Pairs.{zero, ◌⊕◌, times}
 use Rattle.price.specs.Integers.{*ℤ-+ℤ}
 use Rattle.price.proofs.PairSums.{⊕-zero, zero-⊕, ⊕-cross, no_times, one_times, +-times}
-use Rattle.std.specs.List.{AllByRecursion as All}
+use Rattle.std.specs.List.{AllByRecursion}
 use Rattle.task.specs.declared.edges.Edge.{Edge}
 use Rattle.task.specs.Graph.{head_of, edge_at, Path, Run}
 use Rattle.task.specs.Turns.{turns_in, turns_by, block_turns, edge_price, price_of, run_price}
@@ -46,7 +46,7 @@ turns_linear p = record {
 pub blocks_by_places : (es : List Edge) (run : List ℕ) → Exist es run → (b : ℕ) → block_turns es (turns_in es run) b ≡ places_of es b run
 blocks_by_places es run exist b = by_places (turns_linear (λ e. eqb e.block b)) es (places_of es b) refl (λ x xs. refl) run (count run exist)
   where
-    count : (xs : List ℕ) → Exist es xs → All (Counts (turns_linear (λ e. eqb e.block b)) es) xs
+    count : (xs : List ℕ) → Exist es xs → AllByRecursion (Counts (turns_linear (λ e. eqb e.block b)) es) xs
     count [] all = tt
     count (x ∷ xs) all = (inl all.0, count xs all.1)
 
@@ -68,7 +68,7 @@ pub prices_by_places : (es : List Edge) (run : List ℕ) → run_price es run �
 prices_by_places es run =
     by_places price_linear es (prices_along es) refl (λ x xs. ap (λ a. a ⊕ prices_along es xs) (sym (one_times (edge_price (edge_at es x))))) run (count run)
   where
-    count : (xs : List ℕ) → All (Counts price_linear es) xs
+    count : (xs : List ℕ) → AllByRecursion (Counts price_linear es) xs
     count [] = tt
     count (x ∷ xs) = (inr refl, count xs)
 

@@ -2,7 +2,7 @@
 use Rattle.std.proofs.Common.{◌≡◌, ℕ, ◌+◌, ◌<◌, ◌≤◌, true, false, not, eqb, List, [], ◌∷◌, length, get_or, ℤ, ap, ⊎_elim, arith}
 use borrow.Author.Differences.{ints}
 use lib.Signed.{le_z}
-use Rattle.std.specs.List.{AllByRecursion as All}
+use Rattle.std.specs.List.{AllByRecursion}
 use Rattle.std.proofs.lemmas.List.{get_or_default}
 use Rattle.std.proofs.lemmas.Bool.{both_ways, eqb-true, eqb-false, ne_eqb, ltb-true, lt-ltb, and_parts, and_cases, not-true, not-false, cases_lt}
 use Rattle.task.specs.declared.edges.Edge.{Edge}
@@ -56,11 +56,11 @@ module _ (es : List Edge) (ts : List ℕ) (sized : length ts ≡ length es) wher
   some_live : (x : ℕ) → x < length es → 0 < get_or ts x 0 → is_live ts x ≡ true
   some_live x low some = lt-ltb 0 (get_or ts x 1) (omega (arith, get_or_default ts x 0 1 (omega arith)))
 
-  forth_all : (xs : List ℕ) (v e : ℕ) → Forth es ts v e xs → All (λ x. 0 < get_or ts x 0) xs
+  forth_all : (xs : List ℕ) (v e : ℕ) → Forth es ts v e xs → AllByRecursion (λ x. 0 < get_or ts x 0) xs
   forth_all [] v e w = tt
   forth_all (x ∷ xs) v e w = (live_some x w.0 w.2, forth_all xs (head_of es x) e w.3)
 
-  path_forth : (xs : List ℕ) (v e : ℕ) → Path es v e xs → All (λ x. 0 < get_or ts x 0) xs → Forth es ts v e xs
+  path_forth : (xs : List ℕ) (v e : ℕ) → Path es v e xs → AllByRecursion (λ x. 0 < get_or ts x 0) xs → Forth es ts v e xs
   path_forth [] v e p all = p
   path_forth (x ∷ xs) v e p all = (p.0, p.1, some_live x p.0 all.0, path_forth xs (head_of es x) e p.2 all.1)
 

@@ -1,7 +1,7 @@
 -- Sums over the places of a run.
 use Rattle.std.specs.Prelude.{ℕ, ◌+◌, ◌<◌, cond, List, [], ◌∷◌, length, ℤ, pos, ◌+ℤ◌, ◌==◌}
 use Rattle.price.specs.Pairs.{Pair, zero, ◌⊕◌}
-use Rattle.std.specs.List.{AllByRecursion as All}
+use Rattle.std.specs.List.{AllByRecursion}
 use Rattle.task.specs.declared.edges.Edge.{Edge}
 use Rattle.task.specs.Graph.{edge_at}
 use Rattle.task.specs.Turns.{edge_price}
@@ -9,7 +9,7 @@ use Rattle.task.specs.Rows.{Row, coefficient}
 
 -- these numbers are edges
 abbrev pub Exist : List Edge → List ℕ → Type 0
-Exist es run = All (λ x. x < length es) run
+Exist es run = AllByRecursion (λ x. x < length es) run
 
 -- the coefficients of the blocks at the places of the run, added up
 abbrev pub coefficients_along : List Edge → Row → List ℕ → ℤ

@@ -1,6 +1,6 @@
 -- The rows of a task, and the runs that keep them.
 use Rattle.std.specs.Prelude.{◌≡◌, ℕ, suc, List, [], ◌∷◌, ℤ, pos, ◌+ℤ◌, ◌*ℤ◌, ◌≤ℤ◌, ◌<ℤ◌, slice_index_or}
-use Rattle.std.specs.List.{AllByRecursion as All}
+use Rattle.std.specs.List.{AllByRecursion}
 use Rattle.task.specs.declared.edges.Edge.{Edge}
 use Rattle.task.specs.declared.rows.Relation.{Relation}
 use Rattle.task.specs.declared.rows.Relation.TheVariants.{Below, AtMost, Equal}
@@ -38,4 +38,4 @@ Keeps es ts row = Meets row.relation (row_sum es row ts) row.k
 -- a run that keeps every row
 pub record KeepsAll (es : List Edge) (rows : List Row) (run : List ℕ) : Type 0 where
   pub is_run : Run es run
-  pub keeps : All (Keeps es (turns_in es run)) rows
+  pub keeps : AllByRecursion (Keeps es (turns_in es run)) rows

@@ -2,7 +2,7 @@
 use Rattle.std.specs.Prelude.{◌≡◌, ℕ, ◌+◌, ◌<◌, ◌≤◌, List, [], length, pos, Ok, Err, Result, ◌==◌, ◌≢◌, nat_eq, slice_index, slice_index_or}
 use Rattle.price.specs.declared.refusals.Refusal.{Refusal}
 use Rattle.price.specs.declared.refusals.Refusal.TheVariants.{TurnsCount, TurnsRange, Unbalanced, Stranded, RowBroken}
-use Rattle.std.specs.List.{AllByRecursion as All}
+use Rattle.std.specs.List.{AllByRecursion}
 use Rattle.task.specs.declared.edges.Edge.{Edge}
 use Rattle.task.specs.declared.rows.Relation.TheVariants.{Equal}
 use Rattle.task.specs.Graph.{tail_of, head_of, Node, Path}
@@ -32,7 +32,7 @@ Balanced es start end ts v = entering es ts v + one_if (v == start) ≡ leaving 
 
 -- the end is reached from v over edges with turns
 abbrev pub Reaches : List Edge → List ℕ → ℕ → ℕ → Type 0
-Reaches es ts end v = (xs : List ℕ) × Path es v end xs × All (λ x. 0 < slice_index ts x) xs
+Reaches es ts end v = (xs : List ℕ) × Path es v end xs × AllByRecursion (λ x. 0 < slice_index ts x) xs
 
 -- from the head of edge x, if it has turns, the end is reached over edges with turns
 abbrev pub Onward : List Edge → ℕ → List ℕ → ℕ → Type 0
@@ -50,7 +50,7 @@ pub record Sound (es : List Edge) (rows : List Row) (start end : ℕ) (ts : List
   pub few : AllInRange es ts
   pub balanced : (v : ℕ) → Node es v → Balanced es start end ts v
   pub onward : (x : ℕ) → x < length es → Onward es end ts x
-  pub keeps : All (Keeps es ts) rows
+  pub keeps : AllByRecursion (Keeps es ts) rows
 
 -- what the turns of a claim show between the two ends of a graph
 pub record Claim (es : List Edge) (start end : ℕ) (claimed : List ℕ) : Type 0 where

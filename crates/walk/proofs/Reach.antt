@@ -1,6 +1,6 @@
 -- Distances to the end: a node that reaches the end has an exit to a node one nearer.
 use Rattle.std.proofs.Common.{◌≡◌, ℕ, zero, suc, ◌+◌, ◌<◌, ◌≤◌, true, eqb, List, [], ◌∷◌, length, get_or, refl, ◌∙◌, ⊎_elim, arith}
-use Rattle.std.specs.List.{AllByRecursion as All}
+use Rattle.std.specs.List.{AllByRecursion}
 use Rattle.std.proofs.lemmas.Bool.{eqb-true, eq-eqb, ltb-true, lt-ltb, and_parts, and_from}
 use Rattle.task.specs.declared.edges.Edge.{Edge}
 use Rattle.task.specs.Graph.{tail_of, head_of, Path}
@@ -30,7 +30,7 @@ module _ (es : List Edge) (claimed : List ℕ) (end : ℕ) where
   pub near_on : (k v x : ℕ) → x < length es → hops es claimed v x ≡ true → near es claimed end k (head_of es x) ≡ true → near es claimed end (suc k) v ≡ true
   near_on k v x low h on = ways.within_on (length es) (tail_of es) (head_of es) (has_turns claimed) end k v (record { number = x; link = low; hops = h; near = on })
 
-  pub path_near : (xs : List ℕ) (v : ℕ) → Path es v end xs → All (λ x. 0 < get_or claimed x 0) xs → near es claimed end (length xs) v ≡ true
+  pub path_near : (xs : List ℕ) (v : ℕ) → Path es v end xs → AllByRecursion (λ x. 0 < get_or claimed x 0) xs → near es claimed end (length xs) v ≡ true
   path_near [] v e all = near_end 0 v e
   path_near (x ∷ xs) v p all = near_on (length xs) v x p.0 (hop_from v x p.1 all.0) (path_near xs (head_of es x) p.2 all.1)
 
