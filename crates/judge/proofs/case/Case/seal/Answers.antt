@@ -6,7 +6,7 @@ use Rattle.judge.proofs.case.Case.seal.Goals as goal
 
 pub returns : goal.returns
 returns c =
-    let said = c.fix-ends.ensures in
+    let said = c.fix_ends.ensures in
     let case = c.args.self.now in
     let edges = vec_items case.edges in
     let rows = map row_of (vec_items case.rows) in

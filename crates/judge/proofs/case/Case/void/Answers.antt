@@ -5,10 +5,10 @@ use Rattle.judge.proofs.case.Case.void.Goals as goal
 pub returns : goal.returns
 returns g c =
     let case = c.args.self.now in
-    let said = c.accept-void.ensures in
+    let said = c.accept_void.ensures in
     record {
       answer = said.answer;
       kept = said.kept;
       accepted = void_made (g.T.Tariff.le c.args.tariff.now) (g.T.Tariff.unit c.args.tariff.now) (g.met.T.Tariff.laws c.args.tariff.now)
-          (contents case).edges (contents case).rows case.stage c.args.tree.now c.accept-void.result case.ends_hold said.answer;
+          (contents case).edges (contents case).rows case.stage c.args.tree.now c.accept_void.result case.ends_hold said.answer;
     }
