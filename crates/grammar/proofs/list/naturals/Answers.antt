@@ -4,12 +4,12 @@ use Rattle.grammar.specs.Reading.{naturals_front}
 use Rattle.grammar.proofs.Listing.{joined, joined_nothing, naturals_more, naturals_none}
 use Rattle.grammar.proofs.list.naturals.Goals as goal
 
-pub returns-in-err-number : goal.returns-in-err-number
-returns-in-err-number c =
+pub returns-in_err-number : goal.returns-in_err-number
+returns-in_err-number c =
     let n = length c.args.table.now in let i = c.loop-i.i in
     let down : n - i ≡ suc (n - (i + 1)) = omega arith in
-    rw c.from-residual.ensures
-    (sym (naturals_none (take i c.loop-i.table) (n - (i + 1)) c.loop-i.rest.now c.in-err-number.ensures)
+    rw c.from_residual.ensures
+    (sym (naturals_none (take i c.loop-i.table) (n - (i + 1)) c.loop-i.rest.now c.in_err-number.ensures)
     ∙ ap (λ k. joined (take i c.loop-i.table) (naturals_front k c.loop-i.rest.now)) (sym down)
     ∙ c.loop-i.invariant)
 
@@ -19,7 +19,7 @@ loop-i-preserved c =
     let down : n - i ≡ suc (n - (i + 1)) = omega arith in
     let less : i < length c.loop-i.table = omega arith in
     simp take_more_set
-    (sym (naturals_more (take i c.loop-i.table) (n - (i + 1)) c.loop-i.rest.now _ _ c.in-ok-number.ensures)
+    (sym (naturals_more (take i c.loop-i.table) (n - (i + 1)) c.loop-i.rest.now _ _ c.in_ok-number.ensures)
     ∙ ap (λ k. joined (take i c.loop-i.table) (naturals_front k c.loop-i.rest.now)) (sym down)
     ∙ c.loop-i.invariant)
 

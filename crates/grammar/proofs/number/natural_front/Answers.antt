@@ -5,4 +5,4 @@ use Rattle.grammar.proofs.number.natural_front.Goals as goal
 
 pub returns : goal.returns
 returns c =
-    (simp take_rest at c.digits_on.ensures) ∙ sym (natural_first _ c.args.text.now (omega (arith, ltb-false)) (sym c.in-ok-digit.ensures))
+    (simp take_rest at c.digits_on.ensures) ∙ sym (natural_first _ c.args.text.now (omega (arith, ltb-false)) (sym c.in_ok-digit.ensures))
