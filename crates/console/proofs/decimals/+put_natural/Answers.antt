@@ -12,18 +12,18 @@ returns-then-number-lt10 t c =
     appended_like _ _ _ _ _ _ (sym (decimal_digit c.args.number (omega arith)))
     (appended_byte c.args.at (48 + c.args.number) c.args.buffer.now (omega (arith, length_digit c.args.number (omega arith))))
 
-pub put-natural-last-requires : goal.put-natural-last-requires
-put-natural-last-requires t c = (omega arith, omega (arith, length_more c.args.number (omega arith) (omega arith)))
+pub put_natural-last-requires : goal.put_natural-last-requires
+put_natural-last-requires t c = (omega arith, omega (arith, length_more c.args.number (omega arith) (omega arith)))
 
 pub bounds-buffer-last : goal.bounds-buffer-last
-bounds-buffer-last t c = omega (arith, length_more c.args.number (omega arith) (omega arith), c.put-natural-last.ensures.ends)
+bounds-buffer-last t c = omega (arith, length_more c.args.number (omega arith) (omega arith), c.put_natural-last.ensures.ends)
 
-pub overflow-add-result-2 : goal.overflow-add-result-2
-overflow-add-result-2 t c = omega (arith, length_more c.args.number (omega arith) (omega arith), c.put-natural-last.ensures.ends)
+pub overflow_add-result-2 : goal.overflow_add-result-2
+overflow_add-result-2 t c = omega (arith, length_more c.args.number (omega arith) (omega arith), c.put_natural-last.ensures.ends)
 
 pub returns : goal.returns
 returns t c =
     appended_like _ _ _ _ _ _ (sym (decimal_step c.args.number (omega arith) (omega arith)))
-    (appended_then _ _ _ _ ((48 + c.args.number % 10) ∷ []) _ _ _ c.put-natural-last.ensures
+    (appended_then _ _ _ _ ((48 + c.args.number % 10) ∷ []) _ _ _ c.put_natural-last.ensures
     (appended_byte _ (48 + c.args.number % 10) _
-    (omega (arith, length_more c.args.number (omega arith) (omega arith), c.put-natural-last.ensures.ends))))
+    (omega (arith, length_more c.args.number (omega arith) (omega arith), c.put_natural-last.ensures.ends))))

@@ -11,8 +11,8 @@ use Rattle.console.proofs.decimals.put_integers.Goals as goal
 pub bounds-buffer-at : goal.bounds-buffer-at
 bounds-buffer-at c = omega (arith, integers_left c.args.numbers.now c.loop-number.number-index (omega arith))
 
-pub put-integer-at-requires : goal.put-integer-at-requires
-put-integer-at-requires c =
+pub put_integer-at-requires : goal.put_integer-at-requires
+put_integer-at-requires c =
     let f : SFits w64 (get_or c.args.numbers.now c.loop-number.number-index (pos 0)) = search rules in
     simp (to_z-of_z, length-set) (omega (arith, integers_left c.args.numbers.now c.loop-number.number-index (omega arith)))
 
@@ -21,7 +21,7 @@ loop-number-preserved c =
     let zs = c.args.numbers.now in let k = c.loop-number.number-index in
     let f : SFits w64 (get_or zs k (pos 0)) = search rules in
     let left = integers_left zs k (omega arith) in
-    let wrote : Appended (c.loop-number.at + 1) (signed_decimal (get_or zs k (pos 0))) _ _ _ = simp to_z-of_z at c.put-integer-at.ensures in
+    let wrote : Appended (c.loop-number.at + 1) (signed_decimal (get_or zs k (pos 0))) _ _ _ = simp to_z-of_z at c.put_integer-at.ensures in
     let text : integers (take k zs) ++ ((32 ∷ []) ++ signed_decimal (get_or zs k (pos 0))) ≡ integers (take (k + 1) zs) =
     sym (ap integers (take_more zs k (pos 0) (omega arith)) ∙ integers_push (take k zs) (get_or zs k (pos 0))) in (
       appended_like _ _ _ _ _ _ text

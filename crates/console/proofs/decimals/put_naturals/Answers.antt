@@ -8,8 +8,8 @@ use Rattle.console.proofs.decimals.put_naturals.Goals as goal
 pub bounds-buffer-at : goal.bounds-buffer-at
 bounds-buffer-at c = omega (arith, naturals_left c.args.numbers.now c.loop-number.number-index (omega arith))
 
-pub put-natural-at-requires : goal.put-natural-at-requires
-put-natural-at-requires c =
+pub put_natural-at-requires : goal.put_natural-at-requires
+put_natural-at-requires c =
     simp length-set (omega (arith, naturals_left c.args.numbers.now c.loop-number.number-index (omega arith)))
 
 pub loop-number-preserved : goal.loop-number-preserved
@@ -20,8 +20,8 @@ loop-number-preserved c =
     sym (ap naturals (take_more ns k 0 (omega arith)) ∙ naturals_push (take k ns) (get_or ns k 0)) in (
       appended_like _ _ _ _ _ _ text
           (appended_then _ _ _ _ _ _ _ _ c.loop-number.invariant.0
-          (appended_then _ _ _ (32 ∷ []) _ _ _ _ (appended_byte c.loop-number.at 32 _ (omega (arith, left))) c.put-natural-at.ensures)),
-      omega (arith, left, c.put-natural-at.ensures.ends),
+          (appended_then _ _ _ (32 ∷ []) _ _ _ _ (appended_byte c.loop-number.at 32 _ (omega (arith, left))) c.put_natural-at.ensures)),
+      omega (arith, left, c.put_natural-at.ensures.ends),
     )
 
 pub returns : goal.returns

@@ -2,20 +2,20 @@ use Rattle.std.proofs.Common.{◌≡◌, ◌-◌, ◌≤◌, length, take, is_ok
 use Rattle.console.proofs.OneByOne.{reply_part, pushed_like}
 use Rattle.console.proofs.sessions.push_reply.Goals as goal
 
-pub slice-bounds-extend-from-slice-end : goal.slice-bounds-extend-from-slice-end
-slice-bounds-extend-from-slice-end c =
-    let inside : c.put-reply-length.result ≤ length c.put-reply-length.new.reply =
-    (reply_part _ _ _ _ _ c.put-reply-length.result c.put-reply-length.ensures).0 in
+pub slice_bounds-extend_from_slice-end : goal.slice_bounds-extend_from_slice-end
+slice_bounds-extend_from_slice-end c =
+    let inside : c.put_reply-length.result ≤ length c.put_reply-length.new.reply =
+    (reply_part _ _ _ _ _ c.put_reply-length.result c.put_reply-length.ensures).0 in
     omega arith
 
 pub returns : goal.returns
 returns c =
-    let n = c.put-reply-length.result in let reply = c.put-reply-length.new.reply in
+    let n = c.put_reply-length.result in let reply = c.put_reply-length.new.reply in
     let same : n - 0 ≡ n = omega arith in
     record {
-      answer = c.put-reply-length.ensures.answer;
-      judged = c.put-reply-length.ensures.judged;
+      answer = c.put_reply-length.ensures.answer;
+      judged = c.put_reply-length.ensures.judged;
       items =
-          pushed_like (vec_items c.args.replies.now) _ _ _ (is_ok c.extend-from-slice.result) c.extend-from-slice.ensures.items
-          (ap (λ k. take k reply) same ∙ (reply_part _ _ _ _ _ n c.put-reply-length.ensures).1);
+          pushed_like (vec_items c.args.replies.now) _ _ _ (is_ok c.extend_from_slice.result) c.extend_from_slice.ensures.items
+          (ap (λ k. take k reply) same ∙ (reply_part _ _ _ _ _ n c.put_reply-length.ensures).1);
     }

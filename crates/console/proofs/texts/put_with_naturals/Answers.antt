@@ -4,6 +4,6 @@ use Rattle.console.proofs.texts.put_with_naturals.Goals as goal
 
 pub returns : goal.returns
 returns c =
-    appended_then _ _ _ _ _ _ _ _ c.put-text-start.ensures
-    (appended_then _ _ _ _ (10 ∷ []) _ _ _ c.put-naturals-end.ensures
-    (appended_byte _ 10 _ (omega (arith, c.put-text-start.ensures.ends, c.put-naturals-end.ensures.ends))))
+    appended_then _ _ _ _ _ _ _ _ c.put_text-start.ensures
+    (appended_then _ _ _ _ (10 ∷ []) _ _ _ c.put_naturals-end.ensures
+    (appended_byte _ 10 _ (omega (arith, c.put_text-start.ensures.ends, c.put_naturals-end.ensures.ends))))
