@@ -6,4 +6,5 @@ pub mod Rule
 pub mod Fewest
 mod Searches
 mod Nearest
+pub mod Tabling
 pub mod Standing

@@ -204,6 +204,7 @@ module _ (es : List Edge) (end : ℕ) (claimed : List ℕ) (rank exit : ℕ → 
         few = omega (arith, w.sums);
         left = w.sums;
         each = w.used;
+        path = w.path;
         rest = rest;
         is_run = record {
           some = omega (arith, w.sums, v.sums, w.counted, v.counted, length-append handed rest, none_left_now, some_left claimed start begins claim.apart);
@@ -214,6 +215,7 @@ module _ (es : List Edge) (end : ℕ) (claimed : List ℕ) (rank exit : ℕ → 
           leads = path_append es start at end handed rest w.path (subst (λ u. Path es at u rest) there v.path);
         };
         exact = turns_each es (handed ++ rest) claimed claim.sized uses;
+        counted = omega (arith, w.sums, v.counted, length-append handed rest);
         done = (λ e. omega (arith, w.sums, nothing_left left at w.inv e), λ h. ⊎_elim (λ (e : at ≡ end). e) (λ (off : at ≡ end → ⊥). absurd (omega (arith, h, w.sums, some_left left at w.inv off))) (cases_eq at end));
       }
         where

@@ -1,5 +1,6 @@
 -- Tables of distances and of last exits, an entry for each of 256 nodes.
-use Rattle.std.specs.Prelude.{◌≡◌, ℕ, ◌+◌, ◌<◌, ◌≤◌, Bool, true, not, ◌&&◌, List, length, sum, ◌==◌, slice_index}
+use Rattle.std.specs.Prelude.{◌≡◌, ℕ, ◌+◌, ◌<◌, ◌≤◌, Bool, true, not, ◌&&◌, List, map, length, sum, ◌==◌, slice_index}
+use Rattle.std.specs.List.{range_with_len}
 use Rattle.task.specs.declared.edges.Edge.{Edge}
 use Rattle.task.specs.Graph.{tail_of, head_of}
 use Rattle.task.specs.Lowest.{one_if}
@@ -13,6 +14,10 @@ pub record Far (es : List Edge) (claimed : List ℕ) (end : ℕ) (far : List ℕ
 -- the table holds the last exit of every node
 pub record Tabled (es : List Edge) (claimed : List ℕ) (end : ℕ) (exits : List ℕ) : Type 0 where
   pub all : (v : ℕ) → v < 256 → slice_index exits v ≡ last_exit es claimed end v
+
+-- the last exits of all nodes, in their order
+unfoldable pub exit_table : List Edge → List ℕ → ℕ → List ℕ
+exit_table es claimed end = map (last_exit es claimed end) (range_with_len 0 256)
 
 -- ---- to compute with
 

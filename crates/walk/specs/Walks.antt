@@ -1,7 +1,7 @@
 -- A walk that takes one edge after another by a choice, and what it comes to.
 use Rattle.std.specs.Prelude.{◌≡◌, ℕ, zero, suc, ◌+◌, ◌-◌, ◌<◌, ◌≤◌, ◌⊎◌, ◌↔◌, List, [], ◌∷◌, ◌++◌, length, take, set, Some, None, sum, Option, ◌==◌, ◌≢◌, slice_index, slice_set}
 use Rattle.task.specs.declared.edges.Edge.{Edge}
-use Rattle.task.specs.Graph.{tail_of, head_of, Run}
+use Rattle.task.specs.Graph.{tail_of, head_of, Path, Run}
 use Rattle.task.specs.Lowest.{one_if}
 use Rattle.task.specs.Sound.{leaving}
 use Rattle.task.specs.Turns.{turns, turns_in}
@@ -83,7 +83,9 @@ pub record Begun (es : List Edge) (start end : ℕ) (claimed handed : List ℕ) 
   pub few : length handed ≤ sum claimed
   pub left : sum (left_after claimed handed) + length handed ≡ sum claimed
   pub each : (x : ℕ) → turns x handed + slice_index (left_after claimed handed) x ≡ slice_index claimed x
+  pub path : Path es start (at_after es start handed) handed
   pub rest : List ℕ
   pub is_run : Run es (handed ++ rest)
   pub exact : turns_in es (handed ++ rest) ≡ claimed
+  pub counted : length (handed ++ rest) ≡ sum claimed
   pub done : (at_after es start handed ≡ end) ↔ (length handed ≡ sum claimed)

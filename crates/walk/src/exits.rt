@@ -2,7 +2,7 @@
 ghost use Rattle.std.specs.Prelude.{◌≡◌, ℕ, ◌+◌, ◌<◌, ◌≤◌, length, slice_index};
 ghost use Rattle.task.specs.Graph.{head_of};
 ghost use Rattle.walk.specs.Rule.{last_exit};
-ghost use Rattle.walk.specs.Tables.{Far, nearer_by, Pass, Tabled};
+ghost use Rattle.walk.specs.Tables.{Far, nearer_by, Pass, Tabled, exit_table};
 
 use crate::turns::turns_of;
 use task::Edge;
@@ -68,7 +68,8 @@ fn exit_of(edges: &[Edge], turns: &[u32], far: &[usize; NODES], node: usize) -> 
 
 /// The last exit of every node: the lowest edge with turns that leads to a node one nearer to the end, or the number of edges.
 pub fn last_exits(edges: &[Edge], turns: &[u32], end: u8) -> [usize; NODES]
-    ensures { Tabled edges.now turns.now end result }
+    ensures table { result ≡ exit_table edges.now turns.now end }
+    ensures exits { Tabled edges.now turns.now end result }
 {
     let far = distances(edges, turns, end);
     let mut exits = [0; NODES];

@@ -1,6 +1,7 @@
-use Rattle.std.proofs.Common.{◌≡◌, ℕ, get_or, set, ◌∙◌, not-suc-le-zero, arith, length-set, below_more}
+use Rattle.std.proofs.Common.{◌≡◌, ℕ, ◌<◌, get_or, set, ◌∙◌, not-suc-le-zero, arith, length-set, below_more}
 use Rattle.std.proofs.lemmas.List.{get_or-set_same, get_or-set_other, length-replicate}
 use Rattle.walk.specs.Rule.{last_exit}
+use Rattle.walk.proofs.Tabling.{is_table}
 use Rattle.walk.proofs.exits.last_exits.Goals as goal
 
 pub loop-node-init : goal.loop-node-init
@@ -15,4 +16,6 @@ loop-node-preserved c = (
 )
 
 pub returns : goal.returns
-returns c = record { all = λ v low. c.loop-node.invariant.1 v (omega arith) }
+returns c =
+    let all : (v : ℕ) → v < 256 → get_or c.loop-node.exits v 0 ≡ last_exit c.args.edges.now c.args.turns.now c.args.end v = λ v low. c.loop-node.invariant.1 v (omega arith) in
+    record { table = is_table c.args.edges.now c.args.turns.now c.args.end c.loop-node.exits c.loop-node.invariant.0 all; exits = record { all = all } }
