@@ -2,6 +2,7 @@
 #![tactic(auto)]
 
 mod deep;
+mod laws;
 
 use anyhow::anyhow;
 use console::session;

@@ -1,0 +1,2 @@
+mod Cases
+mod NoRun
