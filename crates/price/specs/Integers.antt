@@ -1,5 +1,4 @@
 -- Products of whole numbers, which `omega` takes for unknowns: each law hands it the facts already multiplied.
---
 use Rattle.std.specs.Prelude.{◌≡◌, ℕ, ◌+◌, ◌*◌, ◌≤◌, ℤ, pos, ◌+ℤ◌, ◌*ℤ◌, neg_ℤ}
 use Rattle.std.proofs.Common.{mul-le-mul_left, mul-le-mul_right, arith, ap}
 use borrow.Author.Differences.{up, down, sum_is_lem, neg_is, product_is, ints}
