@@ -47,40 +47,40 @@ pub enum Answer {
 
 impl Answer {
     // The answer of a call that answers a number.
-    pub(crate) fn numbered(res: Result<usize, Refusal>) -> Answer
-        ensures { said result ≡ numbered res }
+    pub(crate) fn numbered(outcome: Result<usize, Refusal>) -> Answer
+        ensures { said result ≡ numbered outcome }
     {
-        match res {
+        match outcome {
             Ok(number) => Answer::Number(number),
             Err(refusal) => Answer::Refused(refusal),
         }
     }
 
     // The answer of a call that answers the two ends.
-    pub(crate) fn ended(res: Result<(u8, u8), Refusal>) -> Answer
-        ensures { said result ≡ ended res }
+    pub(crate) fn ended(outcome: Result<(u8, u8), Refusal>) -> Answer
+        ensures { said result ≡ ended outcome }
     {
-        match res {
+        match outcome {
             Ok((start, end)) => Answer::Ends(start, end),
             Err(refusal) => Answer::Refused(refusal),
         }
     }
 
     // The answer of a call that answers a price.
-    pub(crate) fn priced(res: Result<Price, Refusal>) -> Answer
-        ensures { said result ≡ priced (mapped pair res) }
+    pub(crate) fn priced(outcome: Result<Price, Refusal>) -> Answer
+        ensures { said result ≡ priced (mapped pair outcome) }
     {
-        match res {
+        match outcome {
             Ok(price) => Answer::Price(price),
             Err(refusal) => Answer::Refused(refusal),
         }
     }
 
     // The answer of a call that answers nothing more.
-    pub(crate) fn agreed(res: Result<(), Refusal>) -> Answer
-        ensures { said result ≡ unless_refused res }
+    pub(crate) fn agreed(outcome: Result<(), Refusal>) -> Answer
+        ensures { said result ≡ unless_refused outcome }
     {
-        match res {
+        match outcome {
             Ok(()) => Answer::Agreed,
             Err(refusal) => Answer::Refused(refusal),
         }
