@@ -16,7 +16,7 @@ use Rattle.task.specs.Turns.{turns}
 use Rattle.task.proofs.ByPlaces.{prices_by_places}
 use Rattle.certificate.specs.Judged.{InRange, Passes}
 use Rattle.certificate.specs.Lines.{Line, Leaf, leaf_of, leaves, case_lines, at_most, at_least, charge, potential, bound}
-use Rattle.certificate.specs.RangeTests.{inside, near, tests}
+use Rattle.certificate.specs.RangeTests.{inside, tests}
 use Rattle.certificate.specs.Soundness.{Between, NoneDearer, NoRun}
 use Rattle.certificate.specs.Tasks.{Task}
 use Rattle.certificate.specs.Trees.{Tree, leaf, split}

@@ -1,5 +1,5 @@
 -- What an accepted claim and an accepted void claim say.
-use Rattle.std.proofs.Common.{◌≡◌, ℕ, Bool, true, false, List, ℤ, pos, IfOk, Ok, Err, sum, Result, sym, refl, ap, ◌∙◌, subst, arith}
+use Rattle.std.proofs.Common.{◌≡◌, ℕ, Bool, true, List, ℤ, pos, IfOk, Ok, Err, sum, Result, sym, refl, ap, ◌∙◌, subst, arith}
 use Rattle.std.proofs.lemmas.Bool.Decides.{nat_tests}
 use Rattle.std.specs.List.{AllByRecursion}
 use Rattle.price.specs.Laws.{Laws}
@@ -11,7 +11,6 @@ use Rattle.task.specs.EndsAnswer.{ends_answer}
 use Rattle.task.specs.NewRows.{mapped}
 use Rattle.task.specs.Rows.{Row, Keeps}
 use Rattle.task.specs.Sealing.{Ends}
-use Rattle.task.specs.Sound.{Sound}
 use Rattle.task.specs.Turns.{price_of}
 use Rattle.task.specs.TurnsAnswer.{turns_answer}
 use Rattle.task.specs.declared.edges.Edge.{Edge}

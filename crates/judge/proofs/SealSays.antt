@@ -5,7 +5,6 @@ use Rattle.task.specs.Sealing.{EveryEdge, Sealed}
 use Rattle.task.specs.EndsAnswer.{ends_answer}
 use Rattle.task.specs.declared.edges.Edge.{Edge}
 use Rattle.task.proofs.Seals.{answer_says, exactly, every_edge}
-use Rattle.judge.specs.Cases.{Contents}
 use Rattle.judge.specs.Drafting.{seal_answer}
 use Rattle.judge.specs.declared.stages.Stage.{Stage}
 use Rattle.judge.specs.declared.stages.Stage.TheVariants.{Draft, Sealed as SealedStage, Certified, Void}

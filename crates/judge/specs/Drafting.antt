@@ -9,8 +9,6 @@ use Rattle.price.specs.declared.refusals.Refusal.TheVariants.{NotDraft, EdgesFul
 use Rattle.task.specs.Edges.{edge_made, repeated}
 use Rattle.task.specs.EndsAnswer.{ends_answer}
 use Rattle.task.specs.NewRows.{row_made}
-use Rattle.task.specs.Rows.{Row}
-use Rattle.task.specs.declared.edges.Edge.{Edge}
 
 -- the questions that made something, and then those about it
 abbrev pub and_then : {A B : Type 0} → Result A Refusal → (A → Result B Refusal) → Result B Refusal

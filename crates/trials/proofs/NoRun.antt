@@ -11,9 +11,8 @@ use Rattle.task.specs.declared.edges.Edge.{Edge}
 use Rattle.judge.specs.Cases.{Contents}
 use Rattle.judge.specs.Drafting.{and_then, taken, edge_answer, edge_kept}
 use Rattle.judge.specs.declared.stages.Stage.TheVariants.{Draft}
-use Rattle.judge.specs.Answers.{Said, number, ends, refused, numbered}
+use Rattle.judge.specs.Answers.{number, ends, refused, numbered}
 use Rattle.judge.specs.Calls.{Request, seal, claim}
-use Rattle.judge.specs.Performing.{answered, after}
 use Rattle.trials.specs.Playing.{answers_from}
 use Rattle.trials.specs.Worked.{Costs, an_edge, BalancedButNoRun}
 

@@ -1,14 +1,11 @@
 -- The worked cases of the rules.
-use Rattle.std.specs.Prelude.{◌≡◌, ℕ, ◌≤◌, List, [], ◌∷◌, ◌++◌, ℤ, pos, negsuc}
+use Rattle.std.specs.Prelude.{ℕ, ◌≤◌, List, [], ◌∷◌, ◌++◌, ℤ, pos, negsuc}
 use Rattle.judge.specs.Answers.{Said, number, ends, price, agreed, refused}
 use Rattle.judge.specs.Calls.{Request, edge, row, seal, claim, void}
-use Rattle.judge.specs.Cases.{fresh}
-use Rattle.price.specs.Pairs.{Pair}
 use Rattle.price.specs.Tariffs.{by_cycles, one_read, by_weight, one_cycle}
-use Rattle.price.specs.declared.refusals.Refusal.{Refusal}
 use Rattle.price.specs.declared.refusals.Refusal.TheVariants.{Stranded, RowBroken, NotOneTree, TreeRange, AllowanceShort, BoundTooHigh}
 use Rattle.std.specs.List.{AllByRecursion}
-use Rattle.trials.specs.Playing.{answers_from, Trial, Stands}
+use Rattle.trials.specs.Playing.{Trial, Stands}
 
 -- ---- the loop: enter, sample, retry, leave
 

@@ -1,5 +1,5 @@
 -- A walk that takes one edge after another by a choice, and what it comes to.
-use Rattle.std.specs.Prelude.{◌≡◌, ℕ, zero, suc, ◌+◌, ◌-◌, ◌<◌, ◌≤◌, ◌⊎◌, ◌↔◌, List, [], ◌∷◌, ◌++◌, length, take, set, Some, None, sum, Option, ◌==◌, ◌≢◌, slice_index, slice_set}
+use Rattle.std.specs.Prelude.{◌≡◌, ℕ, zero, suc, ◌+◌, ◌-◌, ◌<◌, ◌≤◌, ◌⊎◌, ◌↔◌, List, [], ◌∷◌, ◌++◌, length, take, Some, None, sum, Option, ◌==◌, ◌≢◌, slice_index, slice_set}
 use Rattle.task.specs.declared.edges.Edge.{Edge}
 use Rattle.task.specs.Graph.{tail_of, head_of, Path, Run}
 use Rattle.task.specs.Lowest.{one_if}

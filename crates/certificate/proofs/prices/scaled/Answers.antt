@@ -1,4 +1,4 @@
-use Rattle.std.proofs.Common.{◌≡◌, ◌+◌, ◌*◌, ◌^◌, pos, ◌*ℤ◌, sym, subst, arith, w64, SFits, rules}
+use Rattle.std.proofs.Common.{◌≡◌, ◌+◌, ◌^◌, pos, ◌*ℤ◌, sym, subst, arith, w64, SFits, rules}
 use Rattle.price.specs.Ranges.{Part}
 use Rattle.price.specs.Integers.{scaled}
 use Rattle.std.proofs.lemmas.Int.{ints, to_z-of_z}

@@ -1,4 +1,4 @@
-use Rattle.std.proofs.Common.{◌≡◌, ap, ◌∙◌}
+use Rattle.std.proofs.Common.{ap, ◌∙◌}
 use Rattle.certificate.specs.Verdicts.{void_answer}
 use Rattle.judge.proofs.case.Case.judge_void.Goals as goal
 

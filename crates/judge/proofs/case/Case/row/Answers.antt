@@ -1,9 +1,9 @@
-use Rattle.std.proofs.Common.{◌≡◌, ◌<◌, ◌≤◌, List, map, length, Ok, Err, vec_items, vec_len, sym, ap, ◌∙◌, arith, rules}
+use Rattle.std.proofs.Common.{◌≡◌, ◌<◌, ◌≤◌, map, length, Ok, Err, vec_items, vec_len, sym, ap, ◌∙◌, arith, rules}
 use lib.ListN.{length-map}
 use Rattle.std.proofs.lemmas.Int.{to_z-of_z}
 use Rattle.std.proofs.lemmas.Result.{err_from_is_err_and}
 use Rattle.task.specs.NewRows.{row_of, row_made}
-use Rattle.judge.specs.Cases.{Contents, contents}
+use Rattle.judge.specs.Cases.{contents}
 use Rattle.judge.specs.declared.case.Case.{Case}
 use Rattle.judge.proofs.RowAsked.{row_full, row_unmade, row_taken, row_last}
 use Rattle.judge.proofs.case.Case.row.Goals as goal
