@@ -3,7 +3,8 @@
 
 Run once, at the top, right after the toolchain's own script for older repositories. A dash stays where it joins an
 operator to a name, as in zero-⊕. Names of src/, names that the toolchain makes (goals, steps) and names of its
-libraries keep their spelling. Prints the names that would fall together, and then changes nothing.
+libraries keep their spelling. Prints the new names that already stand somewhere, as a function's or a module's, for a
+reader to look at; --dry prints all changes and makes none.
 """
 import glob
 import re

@@ -25,8 +25,8 @@ mark_before (m ∷ ms) [] rest e = never rest e
 mark_before (m ∷ ms) (c ∷ cs) rest e = first_same m c ms cs rest (eqb m c) refl (mark_before ms cs rest) e
 
 after_none : (mark text : List ℕ) (o : Option (List ℕ)) → after mark text ≡ o → ((rest : List ℕ) → text ≡ mark ++ rest → ⊥) → None ≡ o
-after_none mark text None e no-rest = refl
-after_none mark text (Some rest) e no-rest = absurd (no-rest rest (sym (mark_before mark text rest e)))
+after_none mark text None e no_rest = refl
+after_none mark text (Some rest) e no_rest = absurd (no_rest rest (sym (mark_before mark text rest e)))
 
 pub after_is : (text mark : List ℕ) (r : Option (Bor (List ℕ))) →
     MatchOption r ((rest : List ℕ) → text ≡ mark ++ rest → ⊥) (λ x. text ≡ mark ++ x.now) → option_map (λ x. x.now) r ≡ after mark text

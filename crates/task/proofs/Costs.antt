@@ -26,7 +26,7 @@ module _ (es : List Edge) (ts : List ℕ) (x cycles reads : ℕ) (adding : Addin
   pub adding_more : (a b : ℕ) → x < min (length es) (length ts) → get_or ts x 0 ≤ 2 ^ 32 →
       a ≡ get_or ts x 0 * (edge_at es x).cycles → a ≤ get_or ts x 0 * 2 ^ 16 → b ≡ get_or ts x 0 * (edge_at es x).reads → b ≤ get_or ts x 0 * 2 ^ 16 →
       Adding es ts (x + 1) (cycles + a) (reads + b)
-  adding_more a b low fits is-a few-a is_b few-b =
+  adding_more a b low fits is_a few_a is_b few_b =
       let more = rest_more price_linear es ts x low in
       record {
         sum = parts

@@ -74,10 +74,10 @@ module _ {A : Type 0} {none : A} {add : A → A → A} {gives : Edge → ℕ →
       fewer (inl h) = inl (le_of_suc-le-suc h)
       fewer (inr nothing) = inr nothing
 
-  module _ (es : List Edge) (sum : List ℕ → A) (sum-none : sum [] ≡ none)
+  module _ (es : List Edge) (sum : List ℕ → A) (sum_none : sum [] ≡ none)
       (sum_more : (x : ℕ) (run : List ℕ) → sum (x ∷ run) ≡ add (gives (edge_at es x) 1) (sum run)) where
     pub by_places : (run : List ℕ) → AllByRecursion (Counts es) run → total es (turns_in es run) ≡ sum run
-    by_places [] all = at_none 0 es ∙ sym sum-none
+    by_places [] all = at_none 0 es ∙ sym sum_none
     by_places (x ∷ run) all =
         at_more x run 0 es
         ∙ (λ j. add (subst (λ n. total es (spots n 0 es) ≡ gives (edge_at es x) 1) (zero-add x) (at_edge es x 0 all.0) j) (by_places run all.1 j))

@@ -39,14 +39,14 @@ Sole p n None = (s : ℕ) → s < n → p s ≡ true → ((v : ℕ) → v < n �
 module _ (p : ℕ → Bool) where
   module _ (n : ℕ) where
     pub sole_two : (s v : ℕ) → s < v → v < n → p s ≡ true → p v ≡ true → None ≡ sole p n
-    sole_two s v lt low first-met met =
+    sole_two s v lt low first_met met =
         sym (cond-true (ltb (lowest second n) n) None (first p n) (lt-ltb (lowest second n) n (omega (arith, lowest_le second n v test))))
       where
         second : ℕ → Bool
         second v = p v && ltb (lowest p n) v
 
         test : second v ≡ true
-        test = and_from (p v) (ltb (lowest p n) v) met (lt-ltb (lowest p n) v (omega (arith, lowest_le p n s first-met)))
+        test = and_from (p v) (ltb (lowest p n) v) met (lt-ltb (lowest p n) v (omega (arith, lowest_le p n s first_met)))
 
     -- a search that comes to a second number
     pub sole_more : (only : Option ℕ) (m : ℕ) → Sofar p m only → true ≡ is_some only → m < n → p m ≡ true → None ≡ sole p n

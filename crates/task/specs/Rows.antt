@@ -19,8 +19,8 @@ coefficient row b = slice_index_or row.coefficients b (pos 0)
 
 -- coefficient × turns, added up over the blocks from b on
 abbrev pub weigh : (ℕ → ℕ) → ℕ → List ℤ → ℤ
-weigh turns-of b [] = pos 0
-weigh turns-of b (c ∷ cs) = c *ℤ pos (turns-of b) +ℤ weigh turns-of (suc b) cs
+weigh turns_of b [] = pos 0
+weigh turns_of b (c ∷ cs) = c *ℤ pos (turns_of b) +ℤ weigh turns_of (suc b) cs
 
 -- coefficient × turns over all blocks
 abbrev pub row_sum : List Edge → Row → List ℕ → ℤ
