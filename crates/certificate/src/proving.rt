@@ -16,11 +16,7 @@ use crate::ranges::ask_ranges;
 use crate::shapes::is_one_tree;
 use crate::walking::judge_list;
 use price::{Price, Refusal, Tariff};
-use task::nodes;
-
-const MAX_EDGES: usize = 64;
-
-const MAX_ROWS: usize = 24;
+use task::{MAX_EDGES, MAX_ROWS, nodes};
 
 const MAX_SCALE: i32 = 1_000;
 

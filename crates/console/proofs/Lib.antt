@@ -4,3 +4,4 @@ pub mod Integers
 pub mod Lengths
 pub mod Feeds
 pub mod OneByOne
+pub mod Ruled

@@ -2,3 +2,4 @@ pub mod Writing
 pub mod Rendering
 pub mod Lines
 pub mod Judging
+pub mod Histories

@@ -1,4 +1,5 @@
 mod RowAsked
 mod SealSays
-mod Accepts
+pub mod Accepts
+mod Counting
 mod Halves

@@ -8,6 +8,7 @@ pub mod ByPlaces
 mod Repeated
 mod Padded
 mod Rests
+mod Tallies
 mod ByEdges
 pub mod Flows
 pub mod Checks

@@ -7,7 +7,8 @@ mod laws;
 use anyhow::anyhow;
 use console::session;
 use deep::deep_tree;
-use judge::{Answer, Call, Case, perform};
+use history::{Answer, Call, perform};
+use judge::Case;
 use price::{CyclesFirst, Tariff, Weighted};
 use std::alloc::Global;
 use std::fs;
@@ -90,7 +91,9 @@ fn weighted() -> anyhow::Result<Weighted> {
 }
 
 fn run(rt: &HostRuntime) -> anyhow::Result<()> {
+    show(rt, "drafting.txt")?;
     show(rt, "retry-loop.txt")?;
+    show(rt, "exit-set-aside.txt")?;
     show(rt, "half-integral-row.txt")?;
     show(rt, "balanced-but-no-run.txt")?;
     show(rt, "no-run.txt")?;
