@@ -16,7 +16,11 @@ use crate::ranges::ask_ranges;
 use crate::shapes::is_one_tree;
 use crate::walking::judge_list;
 use price::{Price, Refusal, Tariff};
-use task::{MAX_EDGES, MAX_ROWS, nodes};
+use task::nodes;
+
+const MAX_EDGES: usize = 64;
+
+const MAX_ROWS: usize = 24;
 
 const MAX_SCALE: i32 = 1_000;
 

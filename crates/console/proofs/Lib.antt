@@ -4,4 +4,3 @@ pub mod Integers
 pub mod Lengths
 pub mod Feeds
 pub mod OneByOne
-pub mod Ruled

@@ -1,7 +1,7 @@
 -- One line more.
 use Rattle.std.proofs.Common.{◌≡◌, ℕ, ◌≤◌, Bool, cond, List, [], ◌∷◌, ◌++◌, length, take, drop, Ok, sym, refl, ap, ◌∙◌, subst, append_assoc, arith, length-append}
 use Rattle.std.proofs.lemmas.List.{append-nil, nil_from_length, take_at}
-use Rattle.history.specs.Answers.{Said}
+use Rattle.judge.specs.Answers.{Said}
 use Rattle.judge.specs.Cases.{Contents}
 use Rattle.console.specs.Judging.{Judged, Replied, Replies, Reached}
 use Rattle.console.specs.Lines.{first_line, after_line, lines}

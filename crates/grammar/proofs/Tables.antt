@@ -1,7 +1,7 @@
 -- The numbers of a line, in a table of 512.
 use Rattle.std.proofs.Common.{◌≡◌, ℕ, ◌<◌, ◌≤◌, List, [], ◌∷◌, length, get_or, drop, ℤ, pos, Some, None, Option, refl, ap, ◌∙◌, arith}
 use Rattle.grammar.specs.Options.{and_then}
-use Rattle.history.specs.Calls.{Request, row}
+use Rattle.judge.specs.Calls.{Request, row}
 use Rattle.grammar.specs.Reading.{integers_in, row_of}
 
 pub in_table : (read : List ℤ → Option Request) (o : Option (List ℤ)) (table : List ℤ) (text : List ℕ) → o ≡ integers_in (length table) text → length table ≡ 512 →

@@ -1,13 +1,13 @@
 // The call of a line.
 ghost use Rattle.std.specs.Prelude.{◌≡◌, Some};
-ghost use Rattle.grammar.specs.Reading.{edge_in, row_in, claim_in, void_in, alone as alone_in, short_line, bare_call, request_in};
+ghost use Rattle.grammar.specs.Reading.{edge_in, row_in, claim_in, void_in, alone as alone_in, request_in};
 ghost use Rattle.grammar.specs.Spelling.{Spells};
-ghost use Rattle.history.specs.Calls.{Request, request};
+ghost use Rattle.judge.specs.Calls.{Request, request};
 ghost use Rattle.std.specs.Option.{option_map};
 
 use crate::list::{integers, naturals};
 use crate::number::{after, natural};
-use history::Call;
+use judge::Call;
 
 // An edge has five numbers.
 fn edge<'a>(text: &[u8]) -> Option<Call<'a>>
@@ -72,32 +72,6 @@ fn alone<'a>(call: Call<'a>, text: &[u8]) -> Option<Call<'a>>
     if text.is_empty() { Some(call) } else { None }
 }
 
-// The call of a line that is one word.
-fn bare_call<'a>(line: &[u8]) -> Option<Call<'a>>
-    ensures { option_map request result ≡ bare_call line.now }
-{
-    if let Some(rest) = after(b"seal", line) {
-        return alone(Call::Seal, rest);
-    }
-    if let Some(rest) = after(b"step", line) {
-        return alone(Call::Step, rest);
-    }
-    if let Some(rest) = after(b"withdraw", line) {
-        return alone(Call::Withdraw, rest);
-    }
-    if let Some(rest) = after(b"told", line) {
-        return alone(Call::Told, rest);
-    }
-    None
-}
-
-// The line, if it is not too long.
-fn short_line(line: &[u8]) -> Option<&[u8]>
-    ensures { option_map (λ x. x.now) result ≡ short_line line.now }
-{
-    if line.len() <= 4095 { Some(line) } else { None }
-}
-
 // The call of a line, by its first word.
 fn call_of<'a>(
     line: &[u8],
@@ -106,12 +80,17 @@ fn call_of<'a>(
 ) -> Option<Call<'a>>
     ensures { option_map request result ≡ request_in line.now }
 {
-    let line = short_line(line)?;
+    if line.len() > 4095 {
+        return None;
+    }
     if let Some(rest) = after(b"edge", line) {
         return edge(rest);
     }
     if let Some(rest) = after(b"row", line) {
         return row(rest, table);
+    }
+    if let Some(rest) = after(b"seal", line) {
+        return alone(Call::Seal, rest);
     }
     if let Some(rest) = after(b"claim", line) {
         return claim(rest, turns, table);
@@ -119,7 +98,7 @@ fn call_of<'a>(
     if let Some(rest) = after(b"void", line) {
         return void(rest, table);
     }
-    bare_call(line)
+    None
 }
 
 /// The call that the line spells, if it spells one. Its lists of numbers are written into the tables.

@@ -1,5 +1,4 @@
 mod RowAsked
 mod SealSays
-pub mod Accepts
-mod Counting
+mod Accepts
 mod Halves

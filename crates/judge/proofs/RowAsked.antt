@@ -1,18 +1,17 @@
 -- The questions of `row`, at what the code has found.
-use Rattle.std.proofs.Common.{◌≡◌, ℕ, ◌<◌, ◌≤◌, true, false, ltb, List, [], ◌∷◌, ◌++◌, map, length, ℤ, Ok, Err, Result, sym, ap, ◌∙◌, arith}
+use Rattle.std.proofs.Common.{◌≡◌, ◌<◌, ◌≤◌, List, [], ◌∷◌, ◌++◌, map, length, ℤ, Ok, Err, Result, sym, ap, ◌∙◌, arith}
 use Rattle.std.proofs.lemmas.List.{map_push}
 use Rattle.std.proofs.lemmas.Bool.Decides.{nat_tests}
-use Rattle.price.specs.Questions.{ask}
 use Rattle.price.specs.declared.refusals.Refusal.{Refusal}
-use Rattle.price.specs.declared.refusals.Refusal.TheVariants.{NotDraft, RowsFull}
+use Rattle.price.specs.declared.refusals.Refusal.TheVariants.{RowsFull}
 use Rattle.task.specs.NewRows.{row_of, row_made}
 use Rattle.task.specs.Rows.{Row}
 use Rattle.task.specs.declared.rows.Row as declared
 use Rattle.judge.specs.Cases.{Contents}
-use Rattle.judge.specs.Stages.{draft, is_draft}
 use Rattle.judge.specs.Drafting.{and_then, taken, row_answer}
+use Rattle.judge.specs.declared.stages.Stage.TheVariants.{Draft}
 
-module _ (c : Contents) (relation k : ℤ) (cs : List ℤ) (drafted : c.stage ≡ draft) where
+module _ (c : Contents) (relation k : ℤ) (cs : List ℤ) (draft : c.stage ≡ Draft) where
   pub row_full : 24 ≤ length c.rows → Err RowsFull ≡ row_answer c relation k cs
   row_full h = grind (arith, nat_tests)
 

@@ -1,7 +1,8 @@
 -- What a case holds.
 use Rattle.std.specs.Prelude.{List, [], map, vec_items}
-use Rattle.judge.specs.Stages.{Stage, draft, stage_of}
 use Rattle.judge.specs.declared.case.Case.{Case}
+use Rattle.judge.specs.declared.stages.Stage.{Stage}
+use Rattle.judge.specs.declared.stages.Stage.TheVariants.{Draft}
 use Rattle.task.specs.declared.edges.Edge.{Edge}
 use Rattle.task.specs.NewRows.{row_of}
 use Rattle.task.specs.Rows.{Row}
@@ -13,11 +14,7 @@ pub record Contents : Type 0 where
   pub rows : List Row
 
 abbrev pub contents : Case → Contents
-contents case = record {
-  stage = stage_of case.stage case.exits (vec_items case.left);
-  edges = vec_items case.edges;
-  rows = map row_of (vec_items case.rows);
-}
+contents case = record { stage = case.stage; edges = vec_items case.edges; rows = map row_of (vec_items case.rows) }
 
 abbrev pub fresh : Contents
-fresh = record { stage = draft; edges = []; rows = [] }
+fresh = record { stage = Draft; edges = []; rows = [] }

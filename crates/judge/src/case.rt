@@ -1,10 +1,9 @@
 // The record of a case.
-ghost use Rattle.std.specs.Prelude.{◌≡◌, ◌≤◌, true, vec_len, vec_capacity, sum};
+ghost use Rattle.std.specs.Prelude.{◌≡◌, ◌≤◌, true, vec_len, vec_capacity};
 ghost use Rattle.judge.specs.Stages.{stage_ends_hold};
 
 use crate::stages::Stage;
 use task::{Edge, Row};
-use walk::NODES;
 
 /// One task: its edges, its rows and its stage. The lists have room for all that they may hold,
 /// so no call on a case wants memory.
@@ -13,14 +12,9 @@ pub struct Case {
     pub(crate) stage: Stage,
     pub(crate) edges: Vec<Edge>,
     pub(crate) rows: Vec<Row>,
-    // of a certified claim: the last exit of every node, and the turns left of every edge
-    pub(crate) exits: [usize; NODES],
-    pub(crate) left: Vec<u32>,
     ghost few_edges: { vec_len edges ≤ 64 },
     ghost edge_room: { 64 ≤ vec_capacity edges },
     ghost few_rows: { vec_len rows ≤ 24 },
     ghost row_room: { 24 ≤ vec_capacity rows },
-    ghost left_room: { 64 ≤ vec_capacity left },
-    ghost few_left: { sum left.items ≤ 67108800 },
     ghost ends_hold: { stage_ends_hold stage edges.items ≡ true },
 }

@@ -4,17 +4,14 @@ ghost use Rattle.certificate.specs.Tasks.{task_of};
 ghost use Rattle.certificate.specs.Verdicts.{void_answer as tree_answer};
 ghost use Rattle.judge.specs.Cases.{contents};
 ghost use Rattle.judge.specs.Claiming.{Accepted, Voided, claim_answer, claim_kept, claim_on, task_between, void_answer, void_kept};
-ghost use Rattle.judge.specs.Counts.{Few};
 ghost use Rattle.price.specs.Prices.{pair};
 ghost use Rattle.task.specs.NewRows.{mapped};
 
 use crate::case::Case;
-use crate::counts::{refill, total};
 use crate::stages::Stage;
 use certificate::{Task, prove_price, prove_void};
 use price::{Price, Refusal, Tariff};
 use task::{check_turns, price_of};
-use walk::last_exits;
 
 // The turns are sound, and the tree proves their price.
 fn judge_claim<T: Tariff>(
@@ -54,8 +51,7 @@ impl Case {
         turns: &[u32],
         tree: &[i32],
     ) -> Result<Price, Refusal>
-        ensures answer { mapped pair result ≡ claim_on (T.le tariff.now) (T.unit tariff.now) (task_between (contents self.now).edges (contents self.now).rows start end) turns.now tree.now }
-        ensures few { OnOk result (Few turns.now) }
+        ensures { mapped pair result ≡ claim_on (T.le tariff.now) (T.unit tariff.now) (task_between (contents self.now).edges (contents self.now).rows start end) turns.now tree.now }
     {
         judge_claim(tariff, self.task(start, end), turns, tree)
     }
@@ -81,20 +77,12 @@ impl Case {
         tree: &[i32],
     ) -> Result<Price, Refusal>
         ensures answer { mapped pair result ≡ claim_answer (T.le tariff.now) (T.unit tariff.now) (contents self.old) turns.now tree.now }
-        ensures kept { contents self.new ≡ claim_kept (mapped pair result) (contents self.old) turns.now }
+        ensures kept { contents self.new ≡ claim_kept (mapped pair result) (contents self.old) }
     {
         match self.stage {
             Stage::Sealed { start, end } => {
                 let price = self.judge_turns(tariff, start, end, turns, tree)?;
-                self.exits = last_exits(&self.edges, turns, end);
-                refill(&mut self.left, turns);
-                self.stage = Stage::Certified {
-                    start,
-                    end,
-                    price,
-                    all: total(turns),
-                    at: start,
-                };
+                self.stage = Stage::Certified { start, end };
                 Ok(price)
             }
             _ => Err(Refusal::NotSealed),
@@ -110,7 +98,7 @@ impl Case {
         tree: &[i32],
     ) -> Result<Price, Refusal>
         ensures answer { mapped pair result ≡ claim_answer (T.le tariff.now) (T.unit tariff.now) (contents self.old) turns.now tree.now }
-        ensures kept { contents self.new ≡ claim_kept (mapped pair result) (contents self.old) turns.now }
+        ensures kept { contents self.new ≡ claim_kept (mapped pair result) (contents self.old) }
         ensures accepted { IfOk result (λ p. Accepted (T.le tariff.now) (contents self.old).edges (contents self.old).rows turns.now (pair p)) }
     {
         self.accept_claim(tariff, turns, tree)

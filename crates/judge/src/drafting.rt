@@ -2,15 +2,17 @@
 ghost use Rattle.std.specs.Prelude.{◌≡◌, ℕ, IfOk, Ok};
 ghost use Rattle.judge.specs.Cases.{contents, fresh};
 ghost use Rattle.judge.specs.Drafting.{edge_answer, edge_kept, row_answer, row_kept, seal_answer, seal_kept};
-ghost use Rattle.judge.specs.Stages.{draft};
 ghost use Rattle.task.specs.Sealing.{EveryEdge, Sealed};
 
 use crate::case::Case;
 use crate::stages::Stage;
 use price::Refusal;
 use std::alloc::{AllocError, Global};
-use task::{Edge, MAX_EDGES, MAX_ROWS, Row, ends, repeats};
-use walk::NODES;
+use task::{Edge, Row, ends, repeats};
+
+const MAX_EDGES: usize = 64;
+
+const MAX_ROWS: usize = 24;
 
 impl Case {
     /// An empty draft; refused only for want of memory.
@@ -19,13 +21,10 @@ impl Case {
     {
         let edges = Vec::with_capacity(heap, MAX_EDGES)?;
         let rows = Vec::with_capacity(heap, MAX_ROWS)?;
-        let left = Vec::with_capacity(heap, MAX_EDGES)?;
         Ok(Case {
             stage: Stage::Draft,
             edges,
             rows,
-            exits: [0; NODES],
-            left,
         })
     }
 
@@ -93,7 +92,7 @@ impl Case {
     pub fn seal(&mut self) -> Result<(u8, u8), Refusal>
         ensures answer { result ≡ seal_answer (contents self.old) }
         ensures kept { contents self.new ≡ seal_kept result (contents self.old) }
-        ensures means { (contents self.old).stage ≡ draft → Sealed self.old.edges.items result }
+        ensures means { self.old.stage ≡ Stage.Draft → Sealed self.old.edges.items result }
         ensures law { (start end : ℕ) → result ≡ Ok (start, end) → EveryEdge self.old.edges.items start end }
     {
         self.fix_ends()

@@ -8,7 +8,6 @@ pub mod ByPlaces
 mod Repeated
 mod Padded
 mod Rests
-mod Tallies
 mod ByEdges
 pub mod Flows
 pub mod Checks

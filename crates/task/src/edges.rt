@@ -5,9 +5,6 @@ ghost use Rattle.task.specs.Sides.{end_at, other_side};
 
 use price::Refusal;
 
-/// As many edges as a task may have.
-pub const MAX_EDGES: usize = 64;
-
 const MAX_NODE: u32 = 31;
 
 const MAX_BLOCK: u32 = 63;

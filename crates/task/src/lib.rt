@@ -11,9 +11,9 @@ mod sealing;
 mod spreading;
 mod turns;
 
-pub use edges::{Edge, MAX_EDGES, repeats};
+pub use edges::{Edge, repeats};
 pub use laws::sums_go_by_places;
 pub use pricing::price_of;
-pub use rows::{BLOCKS, MAX_ROWS, Relation, Row};
+pub use rows::{BLOCKS, Relation, Row};
 pub use sealing::{ends, nodes};
 pub use turns::check_turns;

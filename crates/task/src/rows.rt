@@ -3,9 +3,6 @@ ghost use Rattle.std.specs.Prelude.{◌≡◌, true, length};
 ghost use Rattle.price.specs.Ranges.{Within};
 ghost use Rattle.task.specs.Coefficients.{all_small};
 
-/// As many rows as a task may have.
-pub const MAX_ROWS: usize = 24;
-
 /// As many blocks as a row has coefficients.
 pub const BLOCKS: usize = 64;
 

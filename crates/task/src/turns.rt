@@ -1,5 +1,5 @@
 // Whether turns are sound: those that a run can have, and that keep every row.
-ghost use Rattle.std.specs.Prelude.{◌≡◌, ℕ, ◌+◌, ◌*◌, ◌^◌, ◌<◌, ◌≤◌, not, ◌&&◌, ◌↔◌, length, Ok, ◌==◌, slice_index};
+ghost use Rattle.std.specs.Prelude.{◌≡◌, ◌*◌, ◌^◌, ◌<◌, ◌≤◌, not, ◌&&◌, ◌↔◌, length, Ok};
 ghost use Rattle.task.specs.Graph.{head_of};
 ghost use Rattle.task.specs.Lowest.{first, one_if};
 ghost use Rattle.task.specs.Sealing.{Ends};
@@ -29,17 +29,18 @@ fn first_over(turns: &[u32]) -> Option<usize>
     None
 }
 
-// For each node the turns of the edges that have it on that side, added up in one pass.
-fn turns_at(edges: &[Edge], turns: &[u32], side: Side) -> [u128; NODES]
-    ensures sum { (v : ℕ) → v < 256 → slice_index result v ≡ turns_at side v edges.now turns.now }
-    ensures small { (v : ℕ) → v < 256 → slice_index result v ≤ 2 ^ 32 * 2 ^ 64 }
+// The turns of the edges that have the node on that side, added up.
+fn turns_at(edges: &[Edge], turns: &[u32], side: Side, node: usize) -> u128
+    ensures sum { result ≡ turns_at side node edges.now turns.now }
+    ensures small { result ≤ 2 ^ 32 * 2 ^ 64 }
 {
-    let mut sums = [0; NODES];
+    let mut sum = 0;
     for x in 0..edges.len().min(turns.len()) {
-        let node = edges[x].node(side) as usize;
-        sums[node] += turns[x] as u128;
+        if edges[x].node(side) as usize == node {
+            sum += turns[x] as u128;
+        }
     }
-    sums
+    sum
 }
 
 fn one_if(test: bool) -> u128
@@ -49,21 +50,20 @@ fn one_if(test: bool) -> u128
 }
 
 // Whether the turns entering the node, one more at the start, differ from those leaving it, one more at the end.
-fn is_unbalanced(entering: u128, leaving: u128, start: u8, end: u8, node: usize) -> bool
-    requires { (entering ≤ 2 ^ 32 * 2 ^ 64) × (leaving ≤ 2 ^ 32 * 2 ^ 64) }
-    ensures { result ≡ not (entering + one_if (node == start) == leaving + one_if (node == end)) }
+fn is_unbalanced(edges: &[Edge], turns: &[u32], start: u8, end: u8, node: usize) -> bool
+    ensures { result ≡ unbalanced edges.now start end turns.now node }
 {
-    entering + one_if(node == start as usize) != leaving + one_if(node == end as usize)
+    let entering = turns_at(edges, turns, Side::Head, node) + one_if(node == start as usize);
+    let leaving = turns_at(edges, turns, Side::Tail, node) + one_if(node == end as usize);
+    entering != leaving
 }
 
 // The lowest node out of balance.
 fn first_unbalanced(edges: &[Edge], turns: &[u32], start: u8, end: u8) -> Option<usize>
     ensures { result ≡ first (unbalanced edges.now start end turns.now) (node_count edges.now) }
 {
-    let entering = turns_at(edges, turns, Side::Head);
-    let leaving = turns_at(edges, turns, Side::Tail);
     for node in 0..nodes(edges) {
-        if is_unbalanced(entering[node], leaving[node], start, end, node) {
+        if is_unbalanced(edges, turns, start, end, node) {
             return Some(node);
         }
     }

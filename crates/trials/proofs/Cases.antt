@@ -1,5 +1,5 @@
 -- The worked cases, computed.
-use Rattle.std.proofs.Common.{◌≡◌, refl}
+use Rattle.std.proofs.Common.{refl}
 use Rattle.std.specs.List.{AllByRecursion}
 use Rattle.task.specs.Sides.{reaches}
 use Rattle.walk.specs.Rule.{distance}

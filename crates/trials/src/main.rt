@@ -7,8 +7,7 @@ mod laws;
 use anyhow::anyhow;
 use console::session;
 use deep::deep_tree;
-use history::{Answer, Call, perform};
-use judge::Case;
+use judge::{Answer, Call, Case, perform};
 use price::{CyclesFirst, Tariff, Weighted};
 use std::alloc::Global;
 use std::fs;
@@ -91,9 +90,7 @@ fn weighted() -> anyhow::Result<Weighted> {
 }
 
 fn run(rt: &HostRuntime) -> anyhow::Result<()> {
-    show(rt, "drafting.txt")?;
     show(rt, "retry-loop.txt")?;
-    show(rt, "exit-set-aside.txt")?;
     show(rt, "half-integral-row.txt")?;
     show(rt, "balanced-but-no-run.txt")?;
     show(rt, "no-run.txt")?;

@@ -1,62 +1,63 @@
--- Distances that shrink over edges with turns, pass by pass.
-use Rattle.std.proofs.Common.{◌≡◌, ℕ, zero, suc, ◌+◌, ◌<◌, ◌≤◌, Bool, true, false, List, length, get_or, set, replicate, sym, refl, ap, ◌∙◌, subst, ⊎_elim, add-one, arith, length-set}
+-- Distances that shrink over edges with turns, pass by pass, and the exits by them.
+use Rattle.std.proofs.Common.{◌≡◌, ℕ, zero, suc, ◌+◌, ◌<◌, ◌≤◌, Bool, true, false, List, length, get_or, set, replicate, sym, refl, ap, ◌∙◌, subst, ⊎_elim, add-one, arith, length-set, below_more}
 use Rattle.std.proofs.lemmas.List.{get_or-set_same, get_or-set_other, get_or-replicate, length-replicate}
 use Rattle.std.proofs.lemmas.List.Sums.{sum_by-set}
 use Rattle.std.proofs.lemmas.Bool.{both_ways, eqb-true, cases_eq, cases_lt}
-use Rattle.std.proofs.lemmas.Bool.Decides.{nat_tests}
 use Rattle.task.specs.declared.edges.Edge.{Edge}
 use Rattle.task.specs.Graph.{tail_of, head_of}
 use Rattle.task.specs.Lowest.{lowest}
 use Rattle.task.proofs.Lowest.{lowest_passes, lowest_le}
 use Rattle.task.proofs.Reach as ways
 use Rattle.walk.specs.Rule.{has_turns, hops, near, distance}
-use Rattle.walk.specs.Tables.{Far, shorter_by, Right, Pass}
+use Rattle.walk.specs.Tables.{Far, Relaxed, Right, Pass}
 use Rattle.walk.proofs.Reach.{hop_leaves, near_end, near_on}
 use Rattle.walk.proofs.Searches.{lowest_most}
 
 -- ---- one pass
 
--- an edge that is shorter lowers the entry of its tail
-module _ (es : List Edge) (ts before after : List ℕ) (settled : Bool) (n m x d : ℕ) (pass : Pass es ts before after settled n)
-    (low : x < length es) (small : tail_of es x < length after) (small' : head_of es x < length after)
-    (short : shorter_by es ts after x ≡ true) (over : d ≡ get_or after (head_of es x) 0 + 1) where
-  on : has_turns ts x ≡ true
-  on = grind (arith, nat_tests, short)
-
-  less : d < get_or after (tail_of es x) 0
-  less = grind (arith, nat_tests, short, over)
-
-  lowered : List ℕ
-  lowered = set after (tail_of es x) d
-
-  here : get_or lowered (tail_of es x) 0 ≡ d
-  unfolding lowered
-  here = get_or-set_same after (tail_of es x) d 0 small
-
-  elsewhere : (v : ℕ) → (v ≡ tail_of es x → ⊥) → get_or lowered v 0 ≡ get_or after v 0
-  unfolding lowered
-  elsewhere v ne = get_or-set_other after (tail_of es x) v d 0 ne
-
-  pub pass_lowers : Pass es ts before (set after (tail_of es x) d) false m
-  unfolding lowered
-  pass_lowers = record {
-    sized = length-set after (tail_of es x) d ∙ pass.sized;
-    lower = λ v. ⊎_elim
-        (λ (e : v ≡ tail_of es x). subst (λ u. get_or lowered u 0 ≤ get_or before u 0) (sym e) (omega (arith, here, less, pass.lower (tail_of es x))))
-        (λ (ne : v ≡ tail_of es x → ⊥). omega (arith, elsewhere v ne, pass.lower v))
-        (cases_eq v (tail_of es x));
-    right = λ p top counts so v h few. ⊎_elim
-        (λ (e : v ≡ tail_of es x).
-        let there : get_or lowered v 0 ≡ get_or after (head_of es x) 0 + 1 = ap (λ u. get_or lowered u 0) e ∙ here ∙ over in
-        subst (λ k. p k v ≡ true) (sym there) (subst (λ u. p (get_or after (head_of es x) 0 + 1) u ≡ true) (sym e)
-        (counts x low on (get_or after (head_of es x) 0) (pass.right p top counts so (head_of es x) small' (omega (arith, few, there))))))
-        (λ (ne : v ≡ tail_of es x → ⊥).
-        subst (λ k. p k v ≡ true) (sym (elsewhere v ne))
-        (pass.right p top counts so v (omega (arith, h, length-set after (tail_of es x) d)) (omega (arith, few, elsewhere v ne))))
-        (cases_eq v (tail_of es x));
-    done = λ s. absurd (both_ways false refl s);
-    fewer = omega (arith, pass.fewer, less, sum_by-set (λ t. t) after (tail_of es x) d 0 small);
+module _ (es : List Edge) (ts before after : List ℕ) (settled : Bool) (x : ℕ) (pass : Pass es ts before after settled x) where
+  pub pass_goes_by : Relaxed es ts after x → Pass es ts before after settled (x + 1)
+  pass_goes_by here = record {
+    sized = pass.sized;
+    lower = pass.lower;
+    right = pass.right;
+    done = λ s. below_more (Relaxed es ts after) x (pass.done s) here;
+    fewer = pass.fewer;
   }
+
+  module _ (low : x < length es) (on : has_turns ts x ≡ true) (small : tail_of es x < length after) (small' : head_of es x < length after)
+      (less : get_or after (head_of es x) 0 + 1 < get_or after (tail_of es x) 0) where
+    lowered : List ℕ
+    lowered = set after (tail_of es x) (get_or after (head_of es x) 0 + 1)
+
+    here : get_or lowered (tail_of es x) 0 ≡ get_or after (head_of es x) 0 + 1
+    unfolding lowered
+    here = get_or-set_same after (tail_of es x) (get_or after (head_of es x) 0 + 1) 0 small
+
+    elsewhere : (v : ℕ) → (v ≡ tail_of es x → ⊥) → get_or lowered v 0 ≡ get_or after v 0
+    unfolding lowered
+    elsewhere v ne = get_or-set_other after (tail_of es x) v (get_or after (head_of es x) 0 + 1) 0 ne
+
+    pub pass_lowers : Pass es ts before (set after (tail_of es x) (get_or after (head_of es x) 0 + 1)) false (x + 1)
+    unfolding lowered
+    pass_lowers = record {
+      sized = length-set after (tail_of es x) (get_or after (head_of es x) 0 + 1) ∙ pass.sized;
+      lower = λ v. ⊎_elim
+          (λ (e : v ≡ tail_of es x). subst (λ u. get_or lowered u 0 ≤ get_or before u 0) (sym e) (omega (arith, here, less, pass.lower (tail_of es x))))
+          (λ (ne : v ≡ tail_of es x → ⊥). omega (arith, elsewhere v ne, pass.lower v))
+          (cases_eq v (tail_of es x));
+      right = λ p top counts so v h few. ⊎_elim
+          (λ (e : v ≡ tail_of es x).
+          let there : get_or lowered v 0 ≡ get_or after (head_of es x) 0 + 1 = ap (λ u. get_or lowered u 0) e ∙ here in
+          subst (λ k. p k v ≡ true) (sym there) (subst (λ u. p (get_or after (head_of es x) 0 + 1) u ≡ true) (sym e)
+          (counts x low on (get_or after (head_of es x) 0) (pass.right p top counts so (head_of es x) small' (omega (arith, few, there))))))
+          (λ (ne : v ≡ tail_of es x → ⊥).
+          subst (λ k. p k v ≡ true) (sym (elsewhere v ne))
+          (pass.right p top counts so v (omega (arith, h, length-set after (tail_of es x) (get_or after (head_of es x) 0 + 1))) (omega (arith, few, elsewhere v ne))))
+          (cases_eq v (tail_of es x));
+      done = λ s. absurd (both_ways false refl s);
+      fewer = omega (arith, pass.fewer, less, sum_by-set (λ t. t) after (tail_of es x) (get_or after (head_of es x) 0 + 1) 0 small);
+    }
 
 -- ---- until nothing changes
 
@@ -66,7 +67,7 @@ pub record Nearing (es : List Edge) (ts : List ℕ) (end : ℕ) (far : List ℕ)
   pub most : (v : ℕ) → v < 256 → get_or far v 0 ≤ length es + 2
   pub right : Right (near es ts end) (length es + 2) far
   pub at_end : get_or far end 0 ≡ 0
-  pub done : settled ≡ true → (x : ℕ) → x < length es → shorter_by es ts far x ≡ false
+  pub done : settled ≡ true → (x : ℕ) → x < length es → Relaxed es ts far x
 
 module _ (es : List Edge) (ts : List ℕ) (end : ℕ) where
   pub only_end : end < 256 → Nearing es ts end (set (replicate 256 (length es + 2)) end 0) false
@@ -90,13 +91,13 @@ module _ (es : List Edge) (ts : List ℕ) (end : ℕ) where
       there : (v : ℕ) → v < 256 → (v ≡ end → ⊥) → get_or (set (replicate 256 (length es + 2)) end 0) v 0 ≡ length es + 2
       there v h ne = get_or-set_other (replicate 256 (length es + 2)) end v 0 0 ne ∙ get_or-replicate 256 v (length es + 2) 0 h
 
-  pub nearing_on : (before after : List ℕ) (was settled : Bool) → Nearing es ts end before was → Pass es ts before after settled 0 → Nearing es ts end after settled
+  pub nearing_on : (before after : List ℕ) (was settled : Bool) → Nearing es ts end before was → Pass es ts before after settled (length es) → Nearing es ts end after settled
   nearing_on before after was settled r pass = record {
     sized = pass.sized ∙ r.sized;
     most = λ v h. omega (arith, r.most v h, pass.lower v);
     right = pass.right (near es ts end) (length es + 2) counts r.right;
     at_end = omega (arith, r.at_end, pass.lower end);
-    done = λ s x low. pass.done s x (omega arith) low;
+    done = pass.done;
   }
     where
       counts : (x : ℕ) → x < length es → has_turns ts x ≡ true → (k : ℕ) → near es ts end k (head_of es x) ≡ true → near es ts end (k + 1) (tail_of es x) ≡ true
@@ -105,9 +106,6 @@ module _ (es : List Edge) (ts : List ℕ) (end : ℕ) where
 
   -- when nothing shrinks any more, the entries are the distances
   module _ (far : List ℕ) (r : Nearing es ts end far true) where
-    not_shorter : (x : ℕ) → has_turns ts x ≡ true → shorter_by es ts far x ≡ false → get_or far (tail_of es x) 0 ≤ get_or far (head_of es x) 0 + 1
-    not_shorter x on miss = grind (arith, nat_tests)
-
     not_higher : (k v : ℕ) → near es ts end k v ≡ true → get_or far v 0 ≤ k
     not_higher k v h = go k v h
       where
@@ -117,7 +115,7 @@ module _ (es : List Edge) (ts : List ℕ) (end : ℕ) where
         by_edge : (k v x : ℕ) → x < length es → hops es ts v x ≡ true → get_or far (head_of es x) 0 ≤ k → get_or far v 0 ≤ suc k
         by_edge k v x low hop le =
             let on = ways.hop_live (length es) (tail_of es) (head_of es) (has_turns ts) end v x hop in
-            omega (arith, le, subst (λ w. get_or far w 0 ≤ get_or far (head_of es x) 0 + 1) (hop_leaves es ts end v x hop) (not_shorter x on (r.done refl x low)))
+            omega (arith, le, subst (λ w. get_or far w 0 ≤ get_or far (head_of es x) 0 + 1) (hop_leaves es ts end v x hop) (r.done refl x low on))
 
         go : (k v : ℕ) → near es ts end k v ≡ true → get_or far v 0 ≤ k
         go zero v h = at_zero 0 v (eqb-true v end h)

@@ -1,14 +1,13 @@
 -- What a search over the edges answers.
-use Rattle.std.proofs.Common.{◌≡◌, ℕ, zero, suc, ◌+◌, ◌<◌, ◌≤◌, Bool, true, false, cond, ◌&&◌, eqb, List, length, get_or, set, replicate, sym, refl, ap, ◌∙◌, ⊎_elim, arith, length-set}
-use Rattle.std.proofs.lemmas.List.{get_or-set_same, get_or-set_other, get_or-replicate, length-replicate}
-use Rattle.std.proofs.lemmas.Bool.{cases_eq, cases_lt}
-use Rattle.std.proofs.lemmas.Bool.Decides.{nat_tests}
+use Rattle.std.proofs.Common.{◌≡◌, ℕ, zero, suc, ◌+◌, ◌<◌, ◌≤◌, Bool, true, false, cond, ◌&&◌, eqb, List, length, Some, None, sym, ap, ◌∙◌, ap₂, arith}
+use Rattle.std.proofs.lemmas.Bool.{ne_eqb, cond-false}
 use Rattle.task.specs.declared.edges.Edge.{Edge}
-use Rattle.task.specs.Graph.{tail_of, head_of}
+use Rattle.task.specs.Graph.{head_of}
 use Rattle.task.specs.Lowest.{lowest}
 use Rattle.task.proofs.Lowest.{lowest_is, lowest_none}
-use Rattle.walk.specs.Rule.{leads_nearer, last_exit}
+use Rattle.walk.specs.Rule.{spares, beside, hops, taken, leads_nearer, last_exit}
 use Rattle.walk.specs.Tables.{Far, nearer_by}
+use Rattle.walk.proofs.Rule.{beside_spare, beside_last}
 
 pub lowest_most : (p : ℕ → Bool) (n : ℕ) → lowest p n ≤ n
 lowest_most p zero = omega arith
@@ -18,70 +17,27 @@ lowest_most p (suc n) = go (p zero) (lowest_most (λ i. p (suc i)) n)
     go true ih = omega arith
     go false ih = omega arith
 
--- what a search that finds none answers
-pub lowest_all : (p : ℕ → Bool) (n : ℕ) → ((y : ℕ) → y < n → p y ≡ false) → lowest p n ≡ n
-lowest_all p n miss = omega (arith, lowest_none p n miss, lowest_most p n)
+-- ---- the exit
 
--- ---- from the last to the first
+module _ (es : List Edge) (ts : List ℕ) (end v : ℕ) where
+  -- by a table of distances, an edge leads one nearer exactly if the rule says so
+  pub nearer_same : (far : List ℕ) (x : ℕ) → Far es ts end far → head_of es x < 256 → v < 256 → nearer_by es ts far v x ≡ leads_nearer es ts end v x
+  nearer_same far x right low low' = ap₂ (λ a b. hops es ts v x && eqb (a + 1) b) (right.all (head_of es x) low) (right.all v low')
 
--- of the numbers from x on, r is the lowest below n that passes, or n
-pub record LowestFrom (p : ℕ → Bool) (n x r : ℕ) : Type 0 where
-  pub most : r ≤ n
-  pub met : r < n → p r ≡ true
-  pub misses : (y : ℕ) → x ≤ y → y < r → p y ≡ false
+  pub exit_found : (x : ℕ) → x < length es → leads_nearer es ts end v x ≡ true → ((y : ℕ) → y < x → leads_nearer es ts end v y ≡ false) → x ≡ last_exit es ts end v
+  exit_found x low met miss = sym (lowest_is (leads_nearer es ts end v) (length es) x low met miss)
 
-module _ (p : ℕ → Bool) (n : ℕ) where
-  from_here : (x r : ℕ) → r ≡ x → x ≤ n → (x < n → p x ≡ true) → LowestFrom p n x r
-  from_here x r is most met = record { most = omega arith; met = λ low. ap p is ∙ met (omega arith); misses = λ y a b. absurd (omega arith) }
+  pub exit_none : ((y : ℕ) → y < length es → leads_nearer es ts end v y ≡ false) → length es ≡ last_exit es ts end v
+  exit_none miss = omega (arith, lowest_none (leads_nearer es ts end v) (length es) miss, lowest_most (leads_nearer es ts end v) (length es))
 
-  from_next : (x m r s : ℕ) → s ≡ r → m ≤ x + 1 → p x ≡ false → LowestFrom p n m r → LowestFrom p n x s
-  from_next x m r s is next miss f = record {
-    most = omega (arith, f.most);
-    met = λ low. ap p is ∙ f.met (omega arith);
-    misses = λ y a b. grind (arith, f.misses y, cases_eq y x);
-  }
+-- ---- the edge that is taken
 
-  from_all : (x r : ℕ) → x ≤ 0 → LowestFrom p n x r → r ≡ lowest p n
-  from_all x r done f = ⊎_elim
-      (λ (low : r < n). sym (lowest_is p n r low (f.met low) (λ y h. f.misses y (omega arith) h)))
-      (λ (high : n ≤ r). omega (arith, f.most, lowest_all p n (λ y h. f.misses y (omega arith) (omega arith))))
-      (cases_lt r n)
+module _ (es : List Edge) (left : List ℕ) (v end last : ℕ) where
+  pub taken_spare : (v ≡ end → ⊥) → (x : ℕ) → x < length es → spares es left v last x ≡ true → ((y : ℕ) → y < x → spares es left v last y ≡ false) → Some x ≡ taken es left v end last
+  taken_spare off x low met miss =
+      let is = lowest_is (spares es left v last) (length es) x low met miss in
+      sym (cond-false (eqb v end) None (Some (beside es left v last)) (ne_eqb v end off) ∙ ap Some (beside_spare es left v last (omega (arith, low, is)) ∙ is))
 
--- ---- the last exits
-
--- of the edges from x on, the table has for each node the lowest that leads one nearer, or the number of edges
-pub record ExitsFrom (es : List Edge) (ts : List ℕ) (end : ℕ) (exits : List ℕ) (x : ℕ) : Type 0 where
-  pub sized : length exits ≡ 256
-  pub all : (v : ℕ) → v < 256 → LowestFrom (leads_nearer es ts end v) (length es) x (get_or exits v 0)
-
-module _ (es : List Edge) (ts : List ℕ) (end : ℕ) where
-  pub exits_none : ExitsFrom es ts end (replicate 256 (length es)) (length es)
-  exits_none = record {
-    sized = length-replicate 256 (length es);
-    all = λ v low. from_here (leads_nearer es ts end v) (length es) (length es) _ (get_or-replicate 256 v (length es) 0 low) (omega arith) (λ h. absurd (omega arith));
-  }
-
-  pub exits_all : (exits : List ℕ) (x : ℕ) → x ≤ 0 → ExitsFrom es ts end exits x → (v : ℕ) → v < 256 → get_or exits v 0 ≡ last_exit es ts end v
-  exits_all exits x done f v low = from_all (leads_nearer es ts end v) (length es) x (get_or exits v 0) done (f.all v low)
-
-  module _ (far exits : List ℕ) (x m : ℕ) (right : Far es ts end far) (low : head_of es x < 256) (next : m ≤ x + 1) (f : ExitsFrom es ts end exits m) where
-    -- edge x leads from v to a node one nearer exactly if it leaves v and does so by the table
-    leads_by : (v : ℕ) → v < 256 → leads_nearer es ts end v x ≡ eqb (tail_of es x) v && nearer_by es ts far x
-    leads_by v h = grind (arith, nat_tests, right.all (head_of es x) low, right.all v h)
-
-    pub exits_pass : nearer_by es ts far x ≡ false → ExitsFrom es ts end exits x
-    exits_pass miss = record {
-      sized = f.sized;
-      all = λ v h. from_next (leads_nearer es ts end v) (length es) x m _ _ refl next (grind (arith, nat_tests, miss, leads_by v h)) (f.all v h);
-    }
-
-    pub exits_set : x < length es → nearer_by es ts far x ≡ true → ExitsFrom es ts end (set exits (tail_of es x) x) x
-    exits_set edge met = record {
-      sized = length-set exits (tail_of es x) x ∙ f.sized;
-      all = λ v h. ⊎_elim
-          (λ (e : v ≡ tail_of es x). from_here (leads_nearer es ts end v) (length es) x _
-          (grind (arith, get_or-set_same exits (tail_of es x) x 0, f.sized)) (omega arith) (λ low. grind (arith, nat_tests, met, leads_by v h)))
-          (λ (ne : v ≡ tail_of es x → ⊥). from_next (leads_nearer es ts end v) (length es) x m _ _
-          (get_or-set_other exits (tail_of es x) v x 0 ne) next (grind (arith, nat_tests, leads_by v h)) (f.all v h))
-          (cases_eq v (tail_of es x));
-    }
+  pub taken_last : (v ≡ end → ⊥) → ((y : ℕ) → y < length es → spares es left v last y ≡ false) → Some last ≡ taken es left v end last
+  taken_last off miss =
+      sym (cond-false (eqb v end) None (Some (beside es left v last)) (ne_eqb v end off) ∙ ap Some (beside_last es left v last (lowest_none (spares es left v last) (length es) miss)))

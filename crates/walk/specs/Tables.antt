@@ -1,10 +1,10 @@
 -- Tables of distances and of last exits, an entry for each of 256 nodes.
-use Rattle.std.specs.Prelude.{◌≡◌, ℕ, ◌+◌, ◌<◌, ◌≤◌, Bool, true, false, not, ◌&&◌, List, map, length, sum, ◌==◌, nat_lt, slice_index}
+use Rattle.std.specs.Prelude.{◌≡◌, ℕ, ◌+◌, ◌<◌, ◌≤◌, Bool, true, not, ◌&&◌, List, map, length, sum, ◌==◌, slice_index}
 use Rattle.std.specs.List.{range_with_len}
 use Rattle.task.specs.declared.edges.Edge.{Edge}
 use Rattle.task.specs.Graph.{tail_of, head_of}
 use Rattle.task.specs.Lowest.{one_if}
-use Rattle.walk.specs.Rule.{has_turns, distance, last_exit}
+use Rattle.walk.specs.Rule.{has_turns, hops, distance, last_exit}
 
 -- the table holds the distance of every node
 pub record Far (es : List Edge) (claimed : List ℕ) (end : ℕ) (far : List ℕ) : Type 0 where
@@ -21,13 +21,13 @@ exit_table es claimed end = map (last_exit es claimed end) (range_with_len 0 256
 
 -- ---- to compute with
 
--- edge x is a shorter way from its tail than the table has, and has claimed turns
-abbrev pub shorter_by : List Edge → List ℕ → List ℕ → ℕ → Bool
-shorter_by es claimed far x = nat_lt (slice_index far (head_of es x) + 1) (slice_index far (tail_of es x)) && has_turns claimed x
+-- edge x leaves v with claimed turns for a node one nearer by the table
+abbrev pub nearer_by : List Edge → List ℕ → List ℕ → ℕ → ℕ → Bool
+nearer_by es claimed far v x = hops es claimed v x && slice_index far (head_of es x) + 1 == slice_index far v
 
--- edge x leads to a node one nearer by the table, and has claimed turns
-abbrev pub nearer_by : List Edge → List ℕ → List ℕ → ℕ → Bool
-nearer_by es claimed far x = slice_index far (head_of es x) + 1 == slice_index far (tail_of es x) && has_turns claimed x
+-- edge x brings its tail no nearer
+abbrev pub Relaxed : List Edge → List ℕ → List ℕ → ℕ → Type 0
+Relaxed es ts far x = has_turns ts x ≡ true → slice_index far (tail_of es x) ≤ slice_index far (head_of es x) + 1
 
 -- what holds of a number at the head of edge x holds of one more at its tail
 abbrev pub Counts : List Edge → List ℕ → (ℕ → ℕ → Bool) → ℕ → Type 0
@@ -37,10 +37,10 @@ Counts es ts p x = has_turns ts x ≡ true → (k : ℕ) → p k (head_of es x) 
 abbrev pub Right : (ℕ → ℕ → Bool) → ℕ → List ℕ → Type 0
 Right p top far = (v : ℕ) → v < length far → slice_index far v < top → p (slice_index far v) v ≡ true
 
--- a pass from the last edge to edge n, and whether it has changed nothing
+-- a pass that has come to edge n, and whether it has changed nothing
 pub record Pass (es : List Edge) (ts before after : List ℕ) (settled : Bool) (n : ℕ) : Type 0 where
   pub sized : length after ≡ length before
   pub lower : (v : ℕ) → slice_index after v ≤ slice_index before v
   pub right : (p : ℕ → ℕ → Bool) (top : ℕ) → ((x : ℕ) → x < length es → Counts es ts p x) → Right p top before → Right p top after
-  pub done : settled ≡ true → (x : ℕ) → n ≤ x → x < length es → shorter_by es ts after x ≡ false
+  pub done : settled ≡ true → (x : ℕ) → x < n → Relaxed es ts after x
   pub fewer : sum after + one_if (not settled) ≤ sum before

@@ -1,7 +1,8 @@
 // The distance of every node to the end, and its last exit.
 ghost use Rattle.std.specs.Prelude.{◌≡◌, ℕ, ◌+◌, ◌<◌, ◌≤◌, length, slice_index};
 ghost use Rattle.task.specs.Graph.{head_of};
-ghost use Rattle.walk.specs.Tables.{exit_table, Far, nearer_by, Pass, shorter_by, Tabled};
+ghost use Rattle.walk.specs.Rule.{last_exit};
+ghost use Rattle.walk.specs.Tables.{Far, nearer_by, Pass, Tabled, exit_table};
 
 use crate::turns::turns_of;
 use task::Edge;
@@ -9,35 +10,17 @@ use task::Edge;
 /// As many as a node's number can name.
 pub const NODES: usize = 256;
 
-// The distance over edge `x`: one more than its head's.
-fn distance_over(edges: &[Edge], far: &[usize; NODES], x: usize) -> usize
-    requires edge { x < length edges.now }
-    requires most { (v : ℕ) → v < 256 → slice_index far.now v ≤ length edges.now + 2 }
-    ensures distance { result ≡ slice_index far.now (head_of edges.now x) + 1 }
-    ensures low { head_of edges.now x < 256 }
-{
-    far[edges[x].head as usize] + 1
-}
-
-// Whether edge `x` has turns and is a shorter way from its tail than the table has.
-fn shortens(edges: &[Edge], turns: &[u32], far: &[usize; NODES], x: usize) -> bool
-    requires edge { x < length edges.now }
-    requires most { (v : ℕ) → v < 256 → slice_index far.now v ≤ length edges.now + 2 }
-    ensures { result ≡ shorter_by edges.now turns.now far.now x }
-{
-    distance_over(edges, far, x) < far[edges[x].tail as usize] && turns_of(turns, x) > 0
-}
-
 // One pass over the edges: lowers the entry of each node from which an edge with turns leads to a lower one, and tells whether there was none.
-// It goes from the last edge to the first, since an edge mostly leads to a node that later edges leave: few passes are then needed.
 fn shorten(edges: &[Edge], turns: &[u32], far: &mut [usize; NODES]) -> bool
     requires { (v : ℕ) → v < 256 → slice_index far.old v ≤ length edges.now + 2 }
-    ensures { Pass edges.now turns.now far.old far.new result 0 }
+    ensures { Pass edges.now turns.now far.old far.new result (length edges.now) }
 {
     let mut settled = true;
-    for x in (0..edges.len()).rev() {
-        if shortens(edges, turns, far, x) {
-            far[edges[x].tail as usize] = distance_over(edges, far, x);
+    for x in 0..edges.len() {
+        let from = edges[x].tail as usize;
+        let to = edges[x].head as usize;
+        if turns_of(turns, x) > 0 && far[to] + 1 < far[from] {
+            far[from] = far[to] + 1;
             settled = false;
         }
     }
@@ -57,14 +40,30 @@ fn distances(edges: &[Edge], turns: &[u32], end: u8) -> [usize; NODES]
     far
 }
 
-// Whether edge `x` has turns and leads to a node one nearer by the table.
-fn leads_nearer(edges: &[Edge], turns: &[u32], far: &[usize; NODES], x: usize) -> bool
+// Whether edge `x` has turns and leads from the node to one that is one nearer by the table.
+fn is_nearer(edges: &[Edge], turns: &[u32], far: &[usize; NODES], node: usize, x: usize) -> bool
     requires edge { x < length edges.now }
+    requires node { node < 256 }
     requires most { (v : ℕ) → v < 256 → slice_index far.now v ≤ length edges.now + 2 }
-    ensures answer { result ≡ nearer_by edges.now turns.now far.now x }
+    ensures answer { result ≡ nearer_by edges.now turns.now far.now node x }
     ensures low { head_of edges.now x < 256 }
 {
-    distance_over(edges, far, x) == far[edges[x].tail as usize] && turns_of(turns, x) > 0
+    let head = edges[x].head as usize;
+    edges[x].tail as usize == node && turns_of(turns, x) > 0 && far[head] + 1 == far[node]
+}
+
+// The lowest such edge, or the number of edges: by a table of distances, the node's last exit.
+fn exit_of(edges: &[Edge], turns: &[u32], far: &[usize; NODES], node: usize) -> usize
+    requires node { node < 256 }
+    requires most { (v : ℕ) → v < 256 → slice_index far.now v ≤ length edges.now + 2 }
+    ensures { (end : ℕ) → Far edges.now turns.now end far.now → result ≡ last_exit edges.now turns.now end node }
+{
+    for x in 0..edges.len() {
+        if is_nearer(edges, turns, far, node, x) {
+            return x;
+        }
+    }
+    edges.len()
 }
 
 /// The last exit of every node: the lowest edge with turns that leads to a node one nearer to the end, or the number of edges.
@@ -73,12 +72,9 @@ pub fn last_exits(edges: &[Edge], turns: &[u32], end: u8) -> [usize; NODES]
     ensures exits { Tabled edges.now turns.now end result }
 {
     let far = distances(edges, turns, end);
-    let mut exits = [edges.len(); NODES];
-    // From the last edge to the first, so that the lowest one stays.
-    for x in (0..edges.len()).rev() {
-        if leads_nearer(edges, turns, &far, x) {
-            exits[edges[x].tail as usize] = x;
-        }
+    let mut exits = [0; NODES];
+    for node in 0..NODES {
+        exits[node] = exit_of(edges, turns, &far, node);
     }
     exits
 }

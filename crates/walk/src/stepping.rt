@@ -1,7 +1,7 @@
 // The rule of step.
 ghost use Rattle.std.specs.Prelude.{◌≡◌, ℕ, ◌<◌, List, length, ◌==◌, slice_index};
 ghost use Rattle.task.specs.Lowest.{one_if};
-ghost use Rattle.walk.specs.Rule.{first_beside, next, spares, taken};
+ghost use Rattle.walk.specs.Rule.{next, spares, taken};
 ghost use Rattle.walk.specs.Standing.{StepsOn};
 ghost use Rattle.walk.specs.Tables.{Tabled};
 
@@ -24,27 +24,19 @@ fn has_spare(edges: &[Edge], left: &[u32], at: u8, last: usize, x: usize) -> boo
     edges[x].tail == at && turns_of(left, x) > set_aside(x, last)
 }
 
-// The lowest such edge, or the number of edges.
-fn first_spare(edges: &[Edge], left: &[u32], at: u8, last: usize) -> usize
-    ensures { result ≡ first_beside edges.now left.now at last }
-{
-    for x in 0..edges.len() {
-        if has_spare(edges, left, at, last, x) {
-            return x;
-        }
-    }
-    edges.len()
-}
-
-// The lowest edge with a turn to spare; if there is none, the last exit. None at the end.
+// The lowest such edge; if there is none, the last exit. None at the end.
 fn choose(edges: &[Edge], last: usize, left: &[u32], at: u8, end: u8) -> Option<usize>
     ensures { result ≡ taken edges.now left.now at end last }
 {
     if at == end {
         return None;
     }
-    let x = first_spare(edges, left, at, last);
-    if x < edges.len() { Some(x) } else { Some(last) }
+    for x in 0..edges.len() {
+        if has_spare(edges, left, at, last, x) {
+            return Some(x);
+        }
+    }
+    Some(last)
 }
 
 /// The edge that the rule takes at a node, by the table of last exits and the turns left; none at the end.

@@ -1,8 +1,8 @@
 use Rattle.std.proofs.Common.{◌≡◌, refl, ap, ◌∙◌}
 use Rattle.price.specs.Tariffs.{by_cycles, one_read}
-use Rattle.history.specs.Calls.{request}
+use Rattle.judge.specs.Calls.{request}
 use Rattle.judge.specs.Cases.{contents}
-use Rattle.history.specs.Performing.{answered, after}
+use Rattle.judge.specs.Performing.{answered, after}
 use Rattle.console.proofs.replies.judge_line.Goals as goal
 
 pub returns-in-Some : goal.returns-in-Some

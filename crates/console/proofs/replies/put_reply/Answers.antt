@@ -1,5 +1,5 @@
 use Rattle.std.proofs.Common.{Ok, ap}
-use Rattle.history.specs.Answers.{said}
+use Rattle.judge.specs.Answers.{said}
 use Rattle.console.specs.Rendering.{rendered}
 use Rattle.console.proofs.Buffers.{whole}
 use Rattle.console.proofs.replies.put_reply.Goals as goal

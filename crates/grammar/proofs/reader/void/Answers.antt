@@ -1,5 +1,5 @@
 use Rattle.std.proofs.Common.{Some, arith}
-use Rattle.history.specs.Calls.{void}
+use Rattle.judge.specs.Calls.{void}
 use Rattle.grammar.proofs.Tables.{in_table}
 use Rattle.grammar.proofs.reader.void.Goals as goal
 

@@ -1,6 +1,7 @@
--- The exits by the edges from this one on.
-use Rattle.walk.proofs.Searches.{ExitsFrom}
+-- The exits so far are filled in.
+use Rattle.std.proofs.Common.{◌≡◌, ℕ, ◌<◌, length, get_or}
+use Rattle.walk.specs.Rule.{last_exit}
 use Rattle.walk.proofs.exits.last_exits.Given as goal
 
-abbrev pub invariant-loop-x : goal.invariant-loop-x
-invariant-loop-x l = ExitsFrom l.edges l.turns l.end l.exits l.x
+abbrev pub invariant-loop-node : goal.invariant-loop-node
+invariant-loop-node l = (length l.exits ≡ 256) × ((w : ℕ) → w < l.node → get_or l.exits w 0 ≡ last_exit l.edges l.turns l.end w)

@@ -1,4 +1,3 @@
-use Rattle.std.proofs.Common.{vec_items}
 use Rattle.judge.specs.Cases.{contents}
 use Rattle.judge.proofs.Accepts.{claim_made}
 use Rattle.judge.proofs.case.Case.claim.Goals as goal
@@ -11,5 +10,5 @@ returns g c =
       answer = said.answer;
       kept = said.kept;
       accepted = claim_made (g.T.Tariff.le c.args.tariff.now) (g.T.Tariff.unit c.args.tariff.now) (g.met.T.Tariff.laws c.args.tariff.now)
-          (contents case).edges (contents case).rows case.stage case.exits (vec_items case.left) c.args.turns.now c.args.tree.now c.accept_claim.result case.ends_hold said.answer;
+          (contents case).edges (contents case).rows case.stage c.args.turns.now c.args.tree.now c.accept_claim.result case.ends_hold said.answer;
     }

@@ -1,17 +1,12 @@
-use Rattle.std.proofs.Common.{◌≡◌, ◌<◌, ◌≤◌, List, map, length, Ok, Err, vec_items, vec_len, sym, ap, ◌∙◌, arith, rules}
+use Rattle.std.proofs.Common.{◌≡◌, ◌<◌, ◌≤◌, map, length, Ok, Err, vec_items, vec_len, sym, ap, ◌∙◌, arith, rules}
 use lib.ListN.{length-map}
 use Rattle.std.proofs.lemmas.Int.{to_z-of_z}
 use Rattle.std.proofs.lemmas.Result.{err_from_is_err_and}
 use Rattle.task.specs.NewRows.{row_of, row_made}
-use Rattle.judge.specs.Cases.{Contents, contents}
-use Rattle.judge.specs.Stages.{draft, stage_of}
+use Rattle.judge.specs.Cases.{contents}
 use Rattle.judge.specs.declared.case.Case.{Case}
-use Rattle.judge.specs.declared.stages.Stage.TheVariants.{Draft}
 use Rattle.judge.proofs.RowAsked.{row_full, row_unmade, row_taken, row_last}
 use Rattle.judge.proofs.case.Case.row.Goals as goal
-
-drafted : (case : Case) → case.stage ≡ Draft → (contents case).stage ≡ draft
-drafted case is = ap (λ s. stage_of s case.exits (vec_items case.left)) is
 
 long : (case : Case) → length (contents case).rows ≡ vec_len case.rows
 long case = length-map (vec_items case.rows) row_of ∙ sym case.rows.ok.0
@@ -19,7 +14,7 @@ long case = length-map (vec_items case.rows) row_of ∙ sym case.rows.ok.0
 pub returns-then-len-ge-MAX_ROWS : goal.returns-then-len-ge-MAX_ROWS
 returns-then-len-ge-MAX_ROWS c =
     let full : 24 ≤ length (contents c.args.self.now).rows = omega (arith, long c.args.self.now) in
-    record { answer = row_full (contents c.args.self.now) c.args.relation c.args.k c.args.coefficients.now (drafted c.args.self.now c.in-Draft.is) full; kept = search rules }
+    record { answer = row_full (contents c.args.self.now) c.args.relation c.args.k c.args.coefficients.now c.in-Draft.is full; kept = search rules }
 
 pub returns-in_err-row : goal.returns-in_err-row
 returns-in_err-row c =
@@ -29,7 +24,7 @@ returns-in_err-row c =
     let unmade : Err c.in_err-row.field-0.0 ≡ row_made c.args.relation c.args.k c.args.coefficients.now = simp to_z-of_z at c.in_err-row.ensures in
     let p = err_from_is_err_and c.from_residual.result c.from_residual.ensures.1 in
     rw (p.1, p.2) (record {
-      answer = row_unmade (contents c.args.self.now) c.args.relation c.args.k c.args.coefficients.now (drafted c.args.self.now c.in-Draft.is) _ room unmade;
+      answer = row_unmade (contents c.args.self.now) c.args.relation c.args.k c.args.coefficients.now c.in-Draft.is _ room unmade;
       kept = search rules;
     })
 
@@ -42,6 +37,6 @@ returns c =
     let number : c.len-number.result ≡ length (contents c.args.self.now).rows = c.len-number.ensures ∙ sym (long c.args.self.now) in
     let last = row_last (vec_items c.args.self.now.rows) c.in_ok-row.row _ made in
     record {
-      answer = ap Ok number ∙ row_taken (contents c.args.self.now) c.args.relation c.args.k c.args.coefficients.now (drafted c.args.self.now c.in-Draft.is) _ room made;
-      kept = ap (λ rows. record { stage = (contents c.args.self.now).stage; edges = vec_items c.args.self.now.edges; rows = rows }) (ap (map row_of) c.push_reserved.ensures.items ∙ last);
+      answer = ap Ok number ∙ row_taken (contents c.args.self.now) c.args.relation c.args.k c.args.coefficients.now c.in-Draft.is _ room made;
+      kept = ap (λ rows. record { stage = c.args.self.now.stage; edges = vec_items c.args.self.now.edges; rows = rows }) (ap (map row_of) c.push_reserved.ensures.items ∙ last);
     }

@@ -1,7 +1,6 @@
 use Rattle.std.proofs.Common.{map, vec_items, sym, ◌∙◌, subst}
 use Rattle.task.specs.NewRows.{row_of}
 use Rattle.task.specs.Sealing.{Sealed}
-use Rattle.judge.specs.Cases.{contents}
 use Rattle.judge.proofs.SealSays.{seal_means, seal_law}
 use Rattle.judge.proofs.case.Case.seal.Goals as goal
 
@@ -14,6 +13,6 @@ returns c =
     record {
       answer = said.answer;
       kept = said.kept;
-      means = λ draft. subst (Sealed edges) (sym said.answer) (seal_means (contents case).stage edges rows draft);
-      law = λ start end ok. seal_law (contents case).stage edges rows start end (sym said.answer ∙ ok);
+      means = λ draft. subst (Sealed edges) (sym said.answer) (seal_means case.stage edges rows draft);
+      law = λ start end ok. seal_law case.stage edges rows start end (sym said.answer ∙ ok);
     }

@@ -1,0 +1,23 @@
+-- What a call answers, and what the case then holds.
+use Rattle.std.specs.Prelude.{Bool}
+use Rattle.judge.specs.Answers.{Said, numbered, ended, priced, unless_refused}
+use Rattle.judge.specs.Calls.{Request, edge, row, seal, claim, void}
+use Rattle.judge.specs.Cases.{Contents}
+use Rattle.judge.specs.Claiming.{claim_answer, claim_kept, void_answer, void_kept}
+use Rattle.judge.specs.Drafting.{edge_answer, edge_kept, row_answer, row_kept, seal_answer, seal_kept}
+use Rattle.price.specs.Pairs.{Pair}
+
+module _ (le : Pair → Pair → Bool) (unit : Pair) where
+  abbrev pub answered : Contents → Request → Said
+  answered c (edge tail head block cycles reads) = numbered (edge_answer c tail head block cycles reads)
+  answered c (row relation k coefficients) = numbered (row_answer c relation k coefficients)
+  answered c seal = ended (seal_answer c)
+  answered c (claim turns tree) = priced (claim_answer le unit c turns tree)
+  answered c (void tree) = unless_refused (void_answer le unit c tree)
+
+  abbrev pub after : Contents → Request → Contents
+  after c (edge tail head block cycles reads) = edge_kept (edge_answer c tail head block cycles reads) c tail head block cycles reads
+  after c (row relation k coefficients) = row_kept (row_answer c relation k coefficients) c relation k coefficients
+  after c seal = seal_kept (seal_answer c) c
+  after c (claim turns tree) = claim_kept (claim_answer le unit c turns tree) c
+  after c (void tree) = void_kept (void_answer le unit c tree) c
