@@ -2,7 +2,7 @@
 use Rattle.std.specs.Prelude.{◌≡◌, ℕ, ◌+◌, ◌≤◌, List, ◌++◌, length, ℤ, pos, slice_index_or, unsigned_abs}
 use Rattle.price.specs.Ranges.{Within}
 use Rattle.certificate.specs.declared.cases.Leaf.{Leaf}
-use Rattle.certificate.specs.declared.cases.Task.{Task}
+use Rattle.task.specs.declared.tasks.Task.{Task}
 use Rattle.certificate.specs.declared.branches.Branch.{Branch}
 use Rattle.certificate.specs.Trees.{Tree, leaf, split, spelled, Fits}
 

@@ -4,7 +4,7 @@ use Rattle.price.specs.declared.refusals.Refusal.{Refusal}
 use Rattle.task.specs.declared.edges.Edge.{Edge}
 use Rattle.task.specs.NewRows.{row_of}
 use Rattle.task.specs.Rows.{Row}
-use Rattle.certificate.specs.declared.cases.Task as declared
+use Rattle.task.specs.declared.tasks.Task as declared
 
 -- yes, or the question that failed
 abbrev pub Answer : Type 0

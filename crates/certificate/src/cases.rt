@@ -1,14 +1,4 @@
-// What a case lends to be judged, and the records of a leaf.
-use task::{Edge, Row};
-
-/// The edges and the rows of a case, its start and its end, which are those that `task::ends` answers.
-#[derive(Clone, Copy)]
-pub struct Task<'a> {
-    pub edges: &'a [Edge],
-    pub rows: &'a [Row],
-    pub start: u8,
-    pub end: u8,
-}
+// The records of a leaf.
 
 // A column of the table of a leaf's rows: the coefficients of one edge, or the limits.
 #[derive(Clone, Copy)]

@@ -9,9 +9,10 @@ ghost use Rattle.price.specs.Prices.{pair};
 ghost use Rattle.price.specs.Ranges.{Both};
 
 use crate::branches::Branch;
-use crate::cases::{Leaf, Task};
+use crate::cases::Leaf;
 use crate::questions::{bound_passes, edge_passes, sign_passes};
 use price::{Price, Refusal, Tariff};
+use task::Task;
 
 // Asks the rows in rising order, those of the task first; `n` is the number of the leaf.
 fn ask_signs<T: Tariff>(

@@ -11,10 +11,11 @@ ghost use Rattle.price.specs.Ranges.{Part};
 ghost use Rattle.task.specs.Graph.{edge_at};
 
 use crate::branches::Branch;
-use crate::cases::{Column, Leaf, Task};
+use crate::cases::{Column, Leaf};
 use crate::prices::price_of;
 use crate::sums::{charge, number};
 use price::Price;
+use task::Task;
 
 const CYCLES: usize = 0;
 

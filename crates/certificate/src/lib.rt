@@ -15,5 +15,4 @@ mod shapes;
 mod sums;
 mod walking;
 
-pub use cases::Task;
 pub use proving::{prove_price, prove_void};

@@ -10,17 +10,12 @@ ghost use Rattle.price.specs.Ranges.{Both};
 ghost use Rattle.task.specs.Coefficients.{in_range};
 
 use crate::branches::MAX_SPLITS;
-use crate::cases::Task;
 use crate::prices::price_of;
 use crate::ranges::ask_ranges;
 use crate::shapes::is_one_tree;
 use crate::walking::judge_list;
 use price::{Price, Refusal, Tariff};
-use task::nodes;
-
-const MAX_EDGES: usize = 64;
-
-const MAX_ROWS: usize = 24;
+use task::{MAX_EDGES, MAX_ROWS, Task, nodes};
 
 const MAX_SCALE: i32 = 1_000;
 

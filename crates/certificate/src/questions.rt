@@ -12,12 +12,12 @@ ghost use Rattle.price.specs.Ranges.{Both};
 ghost use Rattle.task.specs.Graph.{edge_at};
 
 use crate::branches::Branch;
-use crate::cases::{Leaf, Task};
+use crate::cases::Leaf;
 use crate::leaves::{allowance, bound};
 use crate::prices::{multiple, price_of, scaled_price};
 use crate::sums::number;
 use price::{Price, Tariff};
-use task::Relation;
+use task::{Relation, Task};
 
 // Whether the row wants its sum to be equal to its limit; a row of the path does not.
 fn wants_equality(task: Task<'_>, i: usize) -> bool

@@ -8,10 +8,11 @@ ghost use Rattle.price.specs.Prices.{pair};
 ghost use Rattle.price.specs.Ranges.{Both};
 
 use crate::branches::Path;
-use crate::cases::{Leaf, Task};
+use crate::cases::Leaf;
 use crate::judging::judge_leaf;
 use crate::reading::{Record, read_record};
 use price::{Price, Refusal, Tariff};
+use task::Task;
 
 // The first question that fails, leaf by leaf in list order.
 pub(crate) fn judge_list<T: Tariff>(

@@ -9,9 +9,9 @@ ghost use Rattle.task.specs.NewRows.{mapped};
 
 use crate::case::Case;
 use crate::stages::Stage;
-use certificate::{Task, prove_price, prove_void};
+use certificate::{prove_price, prove_void};
 use price::{Price, Refusal, Tariff};
-use task::{check_turns, price_of};
+use task::{Task, check_turns, price_of};
 
 // The turns are sound, and the tree proves their price.
 fn judge_claim<T: Tariff>(

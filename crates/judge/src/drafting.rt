@@ -8,11 +8,7 @@ use crate::case::Case;
 use crate::stages::Stage;
 use price::Refusal;
 use std::alloc::{AllocError, Global};
-use task::{Edge, Row, ends, repeats};
-
-const MAX_EDGES: usize = 64;
-
-const MAX_ROWS: usize = 24;
+use task::{Edge, MAX_EDGES, MAX_ROWS, Row, ends, repeats};
 
 impl Case {
     /// An empty draft; refused only for want of memory.

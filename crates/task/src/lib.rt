@@ -9,6 +9,7 @@ mod pricing;
 mod rows;
 mod sealing;
 mod spreading;
+mod tasks;
 mod turns;
 
 pub use edges::{Edge, repeats};
@@ -16,4 +17,5 @@ pub use laws::sums_go_by_places;
 pub use pricing::price_of;
 pub use rows::{BLOCKS, Relation, Row};
 pub use sealing::{ends, nodes};
+pub use tasks::{Flow, MAX_EDGES, MAX_ROWS, NODES, Task};
 pub use turns::check_turns;

@@ -4,9 +4,7 @@ ghost use Rattle.task.specs.Sides.{is_live, reaches};
 ghost use Rattle.task.specs.Spreading.{Pass};
 
 use crate::edges::{Edge, Side};
-
-// As many as a node's number can name.
-pub(crate) const NODES: usize = 256;
+use crate::tasks::NODES;
 
 // Whether edge `x` may be taken: it has turns, or the list of turns does not reach so far.
 pub(crate) fn live(turns: &[u32], x: usize) -> bool

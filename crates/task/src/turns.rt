@@ -12,7 +12,8 @@ use crate::edges::{Edge, Side};
 use crate::keeping::first_broken;
 use crate::rows::Row;
 use crate::sealing::nodes;
-use crate::spreading::{NODES, joined_to, live};
+use crate::spreading::{joined_to, live};
+use crate::tasks::NODES;
 use price::Refusal;
 
 const MAX_TURNS: u32 = 1_048_575;

@@ -5,10 +5,7 @@ ghost use Rattle.walk.specs.Rule.{last_exit};
 ghost use Rattle.walk.specs.Tables.{Far, nearer_by, Pass, Tabled, exit_table};
 
 use crate::turns::turns_of;
-use task::Edge;
-
-/// As many as a node's number can name.
-pub const NODES: usize = 256;
+use task::{Edge, NODES};
 
 // One pass over the edges: lowers the entry of each node from which an edge with turns leads to a lower one, and tells whether there was none.
 fn shorten(edges: &[Edge], turns: &[u32], far: &mut [usize; NODES]) -> bool

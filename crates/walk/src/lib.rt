@@ -6,6 +6,6 @@ mod laws;
 mod stepping;
 mod turns;
 
-pub use exits::{NODES, last_exits};
+pub use exits::last_exits;
 pub use laws::{fewest_stands, walk_stands};
 pub use stepping::next_edge;

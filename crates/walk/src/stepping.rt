@@ -5,9 +5,8 @@ ghost use Rattle.walk.specs.Rule.{next, spares, taken};
 ghost use Rattle.walk.specs.Standing.{StepsOn};
 ghost use Rattle.walk.specs.Tables.{Tabled};
 
-use crate::exits::NODES;
 use crate::turns::turns_of;
-use task::Edge;
+use task::{Edge, NODES};
 
 // One turn of the last exit, none of another edge.
 fn set_aside(x: usize, last: usize) -> u32

@@ -1,0 +1,28 @@
+// A task as a case lends it to be judged, and the limits of all tasks.
+use crate::edges::Edge;
+use crate::rows::Row;
+
+/// As many edges as a case may have.
+pub const MAX_EDGES: usize = 64;
+
+/// As many rows as a case may have.
+pub const MAX_ROWS: usize = 24;
+
+/// As many nodes as a node's number can name: the length of each table by nodes.
+pub const NODES: usize = 256;
+
+/// The edges and the rows of a task, its start and its end.
+#[derive(Clone, Copy)]
+pub struct Task<'a> {
+    pub edges: &'a [Edge],
+    pub rows: &'a [Row],
+    pub start: u8,
+    pub end: u8,
+}
+
+/// The edges of a task, and a number of turns for each: a flow.
+#[derive(Clone, Copy)]
+pub struct Flow<'a> {
+    pub edges: &'a [Edge],
+    pub turns: &'a [u32],
+}
