@@ -15,12 +15,12 @@ fn judge_line(
     case: &mut Case,
     turns: &mut [u32; 512],
     table: &mut [i32; 512],
-) -> Answer
+) -> Result<Answer, Refusal>
     ensures { Judged (contents case.old) text.now (said result) (contents case.new) }
 {
     match read(text, turns, table) {
         Some(call) => perform(case, &CyclesFirst, &call),
-        None => Answer::Refused(Refusal::LineForm),
+        None => Err(Refusal::LineForm),
     }
 }
 

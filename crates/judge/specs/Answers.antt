@@ -1,7 +1,7 @@
 -- What is answered.
 use Rattle.std.specs.Prelude.{ℕ, Ok, Err, Result}
 use Rattle.judge.specs.declared.calls.Answer.{Answer}
-use Rattle.judge.specs.declared.calls.Answer.TheVariants.{Number, Ends, Price, Agreed, Refused}
+use Rattle.judge.specs.declared.calls.Answer.TheVariants.{Number, Ends, Price, Agreed}
 use Rattle.price.specs.Pairs.{Pair}
 use Rattle.price.specs.Prices.{pair}
 use Rattle.price.specs.declared.refusals.Refusal.{Refusal}
@@ -14,12 +14,12 @@ pub data Said : Type 0 where
   agreed : Said
   refused : Refusal → Said
 
-abbrev pub said : Answer → Said
-said (Number n) = number n
-said (Ends start end) = ends start end
-said (Price p) = price (pair p)
-said Agreed = agreed
-said (Refused refusal) = refused refusal
+abbrev pub said : Result Answer Refusal → Said
+said (Ok (Number n)) = number n
+said (Ok (Ends start end)) = ends start end
+said (Ok (Price p)) = price (pair p)
+said (Ok Agreed) = agreed
+said (Err refusal) = refused refusal
 
 -- the result of a call, as an answer
 

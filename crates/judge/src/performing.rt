@@ -7,10 +7,10 @@ ghost use Rattle.judge.specs.Performing.{after, answered};
 
 use crate::calls::{Answer, Call};
 use crate::case::Case;
-use price::Tariff;
+use price::{Refusal, Tariff};
 
 /// Has the case do what is asked under this tariff, and answers what it answered.
-pub fn perform<T: Tariff>(case: &mut Case, tariff: &T, call: &Call) -> Answer
+pub fn perform<T: Tariff>(case: &mut Case, tariff: &T, call: &Call) -> Result<Answer, Refusal>
     ensures answer { said result ≡ answered (T.le tariff.now) (T.unit tariff.now) (contents case.old) (request call.now) }
     ensures kept { contents case.new ≡ after (T.le tariff.now) (T.unit tariff.now) (contents case.old) (request call.now) }
 {
@@ -21,14 +21,14 @@ pub fn perform<T: Tariff>(case: &mut Case, tariff: &T, call: &Call) -> Answer
             block,
             cycles,
             reads,
-        } => Answer::numbered(case.edge(tail, head, block, cycles, reads)),
+        } => case.edge(tail, head, block, cycles, reads).map(Answer::Number),
         Call::Row {
             relation,
             k,
             coefficients,
-        } => Answer::numbered(case.row(relation, k, coefficients)),
-        Call::Seal => Answer::ended(case.seal()),
-        Call::Claim { turns, tree } => Answer::priced(case.claim(tariff, turns, tree)),
-        Call::Void { tree } => Answer::agreed(case.void(tariff, tree)),
+        } => case.row(relation, k, coefficients).map(Answer::Number),
+        Call::Seal => case.seal().map(|(start, end)| Answer::Ends(start, end)),
+        Call::Claim { turns, tree } => case.claim(tariff, turns, tree).map(Answer::Price),
+        Call::Void { tree } => case.void(tariff, tree).map(|()| Answer::Agreed),
     }
 }

@@ -8,7 +8,7 @@ use anyhow::anyhow;
 use console::session;
 use deep::deep_tree;
 use judge::{Answer, Call, Case, perform};
-use price::{CyclesFirst, Tariff, Weighted};
+use price::{CyclesFirst, Refusal, Tariff, Weighted};
 use std::alloc::Global;
 use std::fs;
 use std::io::Write;
@@ -25,14 +25,18 @@ fn show(rt: &HostRuntime, file: &str) -> anyhow::Result<()> {
 }
 
 // Prints what was answered to a claim.
-fn tell(rt: &HostRuntime, name: &str, answer: Answer) -> anyhow::Result<()> {
+fn tell(
+    rt: &HostRuntime,
+    name: &str,
+    answer: Result<Answer, Refusal>,
+) -> anyhow::Result<()> {
     match answer {
-        Answer::Price(price) => println!(rt;
+        Ok(Answer::Price(price)) => println!(rt;
             "{name}: certified at {} {}",
             price.cycles(),
             price.reads()
         )?,
-        Answer::Refused(refusal) => {
+        Err(refusal) => {
             let (question, first, second) = refusal.numbers();
             println!(rt; "{name}: refused, {question} {first} {second}")?
         }
