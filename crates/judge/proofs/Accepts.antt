@@ -1,14 +1,11 @@
 -- What an accepted claim and an accepted void claim say.
-use Rattle.std.proofs.Common.{◌≡◌, ℕ, Bool, true, List, ℤ, pos, IfOk, Ok, Err, sum, Result, sym, refl, ap, ◌∙◌, subst, arith}
+use Rattle.std.proofs.Common.{◌≡◌, ℕ, Bool, true, List, ℤ, pos, Ok, Err, sum, Result, sym, refl, ap, ◌∙◌, subst, arith}
 use Rattle.std.proofs.lemmas.Bool.Decides.{nat_tests}
 use Rattle.std.specs.List.{AllByRecursion}
 use Rattle.price.specs.Laws.{Laws}
 use Rattle.price.specs.Pairs.{Pair, zero}
-use Rattle.price.specs.Prices.{pair}
-use Rattle.price.specs.declared.prices.Price.{Price}
 use Rattle.price.specs.declared.refusals.Refusal.{Refusal}
 use Rattle.task.specs.EndsAnswer.{ends_answer}
-use Rattle.task.specs.NewRows.{mapped}
 use Rattle.task.specs.Rows.{Row, Keeps}
 use Rattle.task.specs.Sealing.{Ends}
 use Rattle.task.specs.Turns.{price_of}
@@ -24,11 +21,11 @@ use Rattle.certificate.proofs.Proves.{judged, price_sound, void_sound}
 use Rattle.walk.specs.Rule.{next}
 use Rattle.walk.specs.Walks.{walk}
 use Rattle.walk.proofs.Rule.{walk_stands}
-use Rattle.judge.specs.Claiming.{Accepted, Voided, task_between, claim_answer, claim_on, void_answer}
+use Rattle.judge.specs.Claiming.{Accepted, Voided, task_between, claim_on}
 use Rattle.judge.specs.Drafting.{and_then}
 use Rattle.judge.specs.Stages.{answers_ends, stage_ends_hold}
 use Rattle.judge.specs.declared.stages.Stage.{Stage}
-use Rattle.judge.specs.declared.stages.Stage.TheVariants.{Draft, Sealed, Certified, Void}
+use Rattle.judge.specs.declared.stages.Stage.TheVariants.{Sealed}
 
 never : {A B : Type 0} (x : A) (refusal : Refusal) → ◌≡◌ {A = Result A Refusal} (Err refusal) (Ok x) → B
 never x refusal is = let z : ◌≡◌ {A = ℕ} 0 1 = cc in absurd (omega arith)
@@ -41,6 +38,9 @@ held_ends es s e (Ok ends) is held =
     (exactly es (ends_answer es) s e (answer_says es)).0 (subst (λ both. ends_answer es ≡ Ok both) (λ i. (first i, second i)) is)
 held_ends es s e (Err refusal) is held = let z : ◌≡◌ {A = ℕ} 0 1 = cc in absurd (omega arith)
 
+pub sealed_ends : (es : List Edge) (s e : ℕ) (stage : Stage) → stage ≡ Sealed s e → stage_ends_hold stage es ≡ true → Ends es s e
+sealed_ends es s e stage is held = held_ends es s e (ends_answer es) refl (rw is at held)
+
 -- both halves of a claim have passed
 both : (a b : Answer) (c p : Pair) → and_then a (λ _. and_then b (λ _. Ok c)) ≡ Ok p → (a ≡ Ok tt) × (b ≡ Ok tt) × (c ≡ p)
 both (Ok _) (Ok _) c p is = (refl, refl, cc)
@@ -48,8 +48,8 @@ both (Ok _) (Err refusal) c p is = never p refusal is
 both (Err refusal) b c p is = never p refusal is
 
 module _ (le : Pair → Pair → Bool) (unit : Pair) (laws : Laws le unit) (es : List Edge) (rows : List Row) where
-  between : (ts : List ℕ) (xs : List ℤ) (s e : ℕ) (p : Pair) → Ends es s e → claim_on le unit (task_between es rows s e) ts xs ≡ Ok p → Accepted le es rows ts p
-  between ts xs s e p ends is =
+  pub claim_between : (ts : List ℕ) (xs : List ℤ) (s e : ℕ) (p : Pair) → Ends es s e → claim_on le unit (task_between es rows s e) ts xs ≡ Ok p → Accepted le es rows ts p
+  claim_between ts xs s e p ends is =
       let task = task_between es rows s e in
       let passed = both (turns_answer es rows s e ts) (verdicts.price_answer le unit task (price_of es ts) xs) (price_of es ts) p is in
       let sound = (exactly_sound es rows s e ts (turns_answer es rows s e ts) (answers es rows s e ts (turns_answer es rows s e ts) refl)).0 passed.0 in
@@ -68,18 +68,8 @@ module _ (le : Pair → Pair → Bool) (unit : Pair) (laws : Laws le unit) (es :
         none_dearer = subst (NoneDearer le task) passed.2 none_dearer;
       }
 
-  claim_accepted : (stage : Stage) (ts : List ℕ) (xs : List ℤ) (p : Pair) → stage_ends_hold stage es ≡ true →
-      claim_answer le unit (record { stage = stage; edges = es; rows = rows }) ts xs ≡ Ok p → Accepted le es rows ts p
-  claim_accepted Draft ts xs p held is = never p _ is
-  claim_accepted (Sealed s e) ts xs p held is = between ts xs s e p (held_ends es s e (ends_answer es) refl held) is
-  claim_accepted (Certified s e) ts xs p held is = never p _ is
-  claim_accepted (Void s e) ts xs p held is = never p _ is
-
-  void_accepted : (stage : Stage) (xs : List ℤ) → stage_ends_hold stage es ≡ true →
-      void_answer le unit (record { stage = stage; edges = es; rows = rows }) xs ≡ Ok tt → Voided es rows
-  void_accepted Draft xs held is = never tt _ is
-  void_accepted (Sealed s e) xs held is =
-      let ends = held_ends es s e (ends_answer es) refl held in
+  pub void_between : (xs : List ℤ) (s e : ℕ) → Ends es s e → verdicts.void_answer le unit (task_between es rows s e) xs ≡ Ok tt → Voided es rows
+  void_between xs s e ends is =
       let task = task_between es rows s e in
       record {
         start = s;
@@ -87,16 +77,3 @@ module _ (le : Pair → Pair → Bool) (unit : Pair) (laws : Laws le unit) (es :
         ends = ends;
         no_run = void_sound le unit task zero xs laws _ (judged le unit task zero (pos 0) xs) is (record { start = ends.start; end = ends.end });
       }
-  void_accepted (Certified s e) xs held is = never tt _ is
-  void_accepted (Void s e) xs held is = never tt _ is
-
-  -- by the result of the call
-  pub claim_made : (stage : Stage) (ts : List ℕ) (xs : List ℤ) (r : Result Price Refusal) → stage_ends_hold stage es ≡ true →
-      mapped pair r ≡ claim_answer le unit (record { stage = stage; edges = es; rows = rows }) ts xs → IfOk r (λ p. Accepted le es rows ts (pair p))
-  claim_made stage ts xs (Ok p) held is = claim_accepted stage ts xs (pair p) held (sym is)
-  claim_made stage ts xs (Err refusal) held is = tt
-
-  pub void_made : (stage : Stage) (xs : List ℤ) (r : Answer) → stage_ends_hold stage es ≡ true →
-      r ≡ void_answer le unit (record { stage = stage; edges = es; rows = rows }) xs → IfOk r (λ _. Voided es rows)
-  void_made stage xs (Ok _) held is = void_accepted stage xs held (sym is)
-  void_made stage xs (Err refusal) held is = tt

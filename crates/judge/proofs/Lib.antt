@@ -1,4 +1,2 @@
 mod RowAsked
-mod SealSays
 mod Accepts
-mod Halves

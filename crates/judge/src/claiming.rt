@@ -69,26 +69,6 @@ impl Case {
         prove_void(tariff, self.task(start, end), tree)
     }
 
-    // The questions of a claim in order, and what it leaves.
-    fn accept_claim<T: Tariff>(
-        &mut self,
-        tariff: &T,
-        turns: &[u32],
-        tree: &[i32],
-    ) -> Result<Price, Refusal>
-        ensures answer { mapped pair result ≡ claim_answer (T.le tariff.now) (T.unit tariff.now) (contents self.old) turns.now tree.now }
-        ensures kept { contents self.new ≡ claim_kept (mapped pair result) (contents self.old) }
-    {
-        match self.stage {
-            Stage::Sealed { start, end } => {
-                let price = self.judge_turns(tariff, start, end, turns, tree)?;
-                self.stage = Stage::Certified { start, end };
-                Ok(price)
-            }
-            _ => Err(Refusal::NotSealed),
-        }
-    }
-
     /// Judges a claim: these turns, backed by this tree. Answers their price, which is then certified:
     /// some run that keeps every row has these turns and this price, and none that keeps every row is dearer.
     pub fn claim<T: Tariff>(
@@ -101,19 +81,11 @@ impl Case {
         ensures kept { contents self.new ≡ claim_kept (mapped pair result) (contents self.old) }
         ensures accepted { IfOk result (λ p. Accepted (T.le tariff.now) (contents self.old).edges (contents self.old).rows turns.now (pair p)) }
     {
-        self.accept_claim(tariff, turns, tree)
-    }
-
-    // The questions of a void claim in order, and what it leaves.
-    fn accept_void<T: Tariff>(&mut self, tariff: &T, tree: &[i32]) -> Result<(), Refusal>
-        ensures answer { result ≡ void_answer (T.le tariff.now) (T.unit tariff.now) (contents self.old) tree.now }
-        ensures kept { contents self.new ≡ void_kept result (contents self.old) }
-    {
         match self.stage {
             Stage::Sealed { start, end } => {
-                self.judge_void(tariff, start, end, tree)?;
-                self.stage = Stage::Void { start, end };
-                Ok(())
+                let price = self.judge_turns(tariff, start, end, turns, tree)?;
+                self.stage = Stage::Certified { start, end };
+                Ok(price)
             }
             _ => Err(Refusal::NotSealed),
         }
@@ -125,6 +97,13 @@ impl Case {
         ensures kept { contents self.new ≡ void_kept result (contents self.old) }
         ensures accepted { OnOk result (Voided (contents self.old).edges (contents self.old).rows) }
     {
-        self.accept_void(tariff, tree)
+        match self.stage {
+            Stage::Sealed { start, end } => {
+                self.judge_void(tariff, start, end, tree)?;
+                self.stage = Stage::Void { start, end };
+                Ok(())
+            }
+            _ => Err(Refusal::NotSealed),
+        }
     }
 }

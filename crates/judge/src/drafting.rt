@@ -70,10 +70,12 @@ impl Case {
         Ok(number)
     }
 
-    // The questions of `seal` in order, and what it leaves.
-    fn fix_ends(&mut self) -> Result<(u8, u8), Refusal>
+    /// Fixes the graph, and answers its start and its end. They differ, and every edge lies on a path between them.
+    pub fn seal(&mut self) -> Result<(u8, u8), Refusal>
         ensures answer { result ≡ seal_answer (contents self.old) }
         ensures kept { contents self.new ≡ seal_kept result (contents self.old) }
+        ensures means { self.old.stage ≡ Stage.Draft → Sealed self.old.edges.items result }
+        ensures law { (start end : ℕ) → result ≡ Ok (start, end) → EveryEdge self.old.edges.items start end }
     {
         match self.stage {
             Stage::Draft => {}
@@ -82,15 +84,5 @@ impl Case {
         let (start, end) = ends(&self.edges)?;
         self.stage = Stage::Sealed { start, end };
         Ok((start, end))
-    }
-
-    /// Fixes the graph, and answers its start and its end. They differ, and every edge lies on a path between them.
-    pub fn seal(&mut self) -> Result<(u8, u8), Refusal>
-        ensures answer { result ≡ seal_answer (contents self.old) }
-        ensures kept { contents self.new ≡ seal_kept result (contents self.old) }
-        ensures means { self.old.stage ≡ Stage.Draft → Sealed self.old.edges.items result }
-        ensures law { (start end : ℕ) → result ≡ Ok (start, end) → EveryEdge self.old.edges.items start end }
-    {
-        self.fix_ends()
     }
 }

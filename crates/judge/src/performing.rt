@@ -21,7 +21,9 @@ pub fn perform<T: Tariff>(case: &mut Case, tariff: &T, call: &Call) -> Result<An
             block,
             cycles,
             reads,
-        } => case.edge(tail, head, block, cycles, reads).map(Answer::Number),
+        } => case
+            .edge(tail, head, block, cycles, reads)
+            .map(Answer::Number),
         Call::Row {
             relation,
             k,

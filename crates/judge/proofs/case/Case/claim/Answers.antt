@@ -1,14 +1,12 @@
+use Rattle.std.proofs.Common.{sym}
 use Rattle.judge.specs.Cases.{contents}
-use Rattle.judge.proofs.Accepts.{claim_made}
+use Rattle.judge.proofs.Accepts.{claim_between, sealed_ends}
 use Rattle.judge.proofs.case.Case.claim.Goals as goal
 
-pub returns : goal.returns
-returns g c =
+pub returns-in_ok-price-in-Sealed-clause-accepted : goal.returns-in_ok-price-in-Sealed-clause-accepted
+returns-in_ok-price-in-Sealed-clause-accepted g c =
     let case = c.args.self.now in
-    let said = c.accept_claim.ensures in
-    record {
-      answer = said.answer;
-      kept = said.kept;
-      accepted = claim_made (g.T.Tariff.le c.args.tariff.now) (g.T.Tariff.unit c.args.tariff.now) (g.met.T.Tariff.laws c.args.tariff.now)
-          (contents case).edges (contents case).rows case.stage c.args.turns.now c.args.tree.now c.accept_claim.result case.ends_hold said.answer;
-    }
+    let es = (contents case).edges in
+    let ends = sealed_ends es c.in-Sealed.start c.in-Sealed.end case.stage c.in-Sealed.is case.ends_hold in
+    claim_between (g.T.Tariff.le c.args.tariff.now) (g.T.Tariff.unit c.args.tariff.now) (g.met.T.Tariff.laws c.args.tariff.now)
+    es (contents case).rows c.args.turns.now c.args.tree.now _ _ _ ends (sym c.in_ok-price-in-Sealed.ensures)
