@@ -11,7 +11,7 @@ use crate::case::Case;
 use crate::stages::Stage;
 use certificate::{prove_price, prove_void};
 use price::{Price, Refusal, Tariff};
-use task::{Task, check_turns, price_of};
+use task::{Flow, Task};
 
 // The turns are sound, and the tree proves their price.
 fn judge_claim<T: Tariff>(
@@ -23,8 +23,12 @@ fn judge_claim<T: Tariff>(
     requires { length task.edges.now ≤ 64 }
     ensures { mapped pair result ≡ claim_on (T.le tariff.now) (T.unit tariff.now) (task_of task.entry) turns.now tree.now }
 {
-    check_turns(task.edges, task.rows, task.start, task.end, turns)?;
-    let price = price_of(task.edges, turns)?;
+    task.check_turns(turns)?;
+    let claimed = Flow {
+        edges: task.edges,
+        turns,
+    };
+    let price = claimed.price()?;
     prove_price(tariff, task, price, tree)?;
     Ok(price)
 }

@@ -14,8 +14,6 @@ mod turns;
 
 pub use edges::{Edge, repeats};
 pub use laws::sums_go_by_places;
-pub use pricing::price_of;
 pub use rows::{BLOCKS, Relation, Row};
 pub use sealing::{ends, nodes};
 pub use tasks::{Flow, MAX_EDGES, MAX_ROWS, NODES, Task};
-pub use turns::check_turns;

@@ -5,6 +5,7 @@ ghost use Rattle.task.specs.Sound.{AllInRange};
 ghost use Rattle.task.specs.Turns.{price_of};
 
 use crate::edges::Edge;
+use crate::tasks::Flow;
 use price::{Price, Refusal};
 
 // One part of an edge's price times its turns.
@@ -36,17 +37,19 @@ fn priced(cycles: u128, reads: u128) -> Result<Price, Refusal>
     Price::new(cycles, reads)
 }
 
-/// The price of these turns: every edge's price times its turns, added up. Where one list is shorter, the rest of the other does not count.
-pub fn price_of(edges: &[Edge], turns: &[u32]) -> Result<Price, Refusal>
-    ensures price { Priced (price_of edges.now turns.now) result }
-    ensures small { length edges.now ≤ 64 → AllInRange edges.now turns.now → Small result }
-{
-    let mut cycles: u128 = 0;
-    let mut reads: u128 = 0;
-    for x in 0..edges.len().min(turns.len()) {
-        let (more_cycles, more_reads) = cost(&edges[x], turns[x]);
-        cycles += more_cycles;
-        reads += more_reads;
+impl Flow<'_> {
+    /// The price of the turns: every edge's price times its turns, added up. Where one list is shorter, the rest of the other does not count.
+    pub fn price(self) -> Result<Price, Refusal>
+        ensures price { Priced (price_of self.entry.edges.now self.entry.turns.now) result }
+        ensures small { length self.entry.edges.now ≤ 64 → AllInRange self.entry.edges.now self.entry.turns.now → Small result }
+    {
+        let mut cycles: u128 = 0;
+        let mut reads: u128 = 0;
+        for x in 0..self.edges.len().min(self.turns.len()) {
+            let (more_cycles, more_reads) = cost(&self.edges[x], self.turns[x]);
+            cycles += more_cycles;
+            reads += more_reads;
+        }
+        priced(cycles, reads)
     }
-    priced(cycles, reads)
 }

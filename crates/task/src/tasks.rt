@@ -1,4 +1,6 @@
 // A task as a case lends it to be judged, and the limits of all tasks.
+ghost use Rattle.std.specs.Prelude.{◌≡◌, slice_index};
+
 use crate::edges::Edge;
 use crate::rows::Row;
 
@@ -25,4 +27,13 @@ pub struct Task<'a> {
 pub struct Flow<'a> {
     pub edges: &'a [Edge],
     pub turns: &'a [u32],
+}
+
+impl Flow<'_> {
+    /// The turns of edge `x`, none past the end of the list.
+    pub fn turns_of(self, x: usize) -> u32
+        ensures { result ≡ slice_index self.entry.turns.now x }
+    {
+        self.turns.get(x).copied().unwrap_or(0)
+    }
 }

@@ -10,10 +10,9 @@ ghost use Rattle.task.specs.TurnsAnswer.{over, rows_of, stranded, turns_answer, 
 
 use crate::edges::{Edge, Side};
 use crate::keeping::first_broken;
-use crate::rows::Row;
 use crate::sealing::nodes;
 use crate::spreading::{joined_to, live};
-use crate::tasks::NODES;
+use crate::tasks::{NODES, Task};
 use price::Refusal;
 
 const MAX_TURNS: u32 = 1_048_575;
@@ -94,40 +93,36 @@ fn first_stranded(edges: &[Edge], turns: &[u32], end: u8) -> Option<usize>
     None
 }
 
-// The questions in their order.
-fn ask_turns(edges: &[Edge], rows: &[Row], start: u8, end: u8, turns: &[u32]) -> Result<(), Refusal>
-    ensures { result ≡ turns_answer edges.now (rows_of rows.now) start end turns.now }
-{
-    if turns.len() != edges.len() {
-        return Err(Refusal::TurnsCount);
+impl Task<'_> {
+    // The questions in their order.
+    fn ask_turns(self, turns: &[u32]) -> Result<(), Refusal>
+        ensures { result ≡ turns_answer self.entry.edges.now (rows_of self.entry.rows.now) self.entry.start self.entry.end turns.now }
+    {
+        if turns.len() != self.edges.len() {
+            return Err(Refusal::TurnsCount);
+        }
+        if let Some(edge) = first_over(turns) {
+            return Err(Refusal::TurnsRange { edge });
+        }
+        if let Some(node) = first_unbalanced(self.edges, turns, self.start, self.end) {
+            return Err(Refusal::Unbalanced { node });
+        }
+        if let Some(edge) = first_stranded(self.edges, turns, self.end) {
+            return Err(Refusal::Stranded { edge });
+        }
+        if let Some(row) = first_broken(self.edges, self.rows, turns) {
+            return Err(Refusal::RowBroken { row });
+        }
+        Ok(())
     }
-    if let Some(edge) = first_over(turns) {
-        return Err(Refusal::TurnsRange { edge });
-    }
-    if let Some(node) = first_unbalanced(edges, turns, start, end) {
-        return Err(Refusal::Unbalanced { node });
-    }
-    if let Some(edge) = first_stranded(edges, turns, end) {
-        return Err(Refusal::Stranded { edge });
-    }
-    if let Some(row) = first_broken(edges, rows, turns) {
-        return Err(Refusal::RowBroken { row });
-    }
-    Ok(())
-}
 
-/// Accepts turns for every edge that are in range, balance at every node, join every edge with turns to the end, and keep every row.
-pub fn check_turns(
-    edges: &[Edge],
-    rows: &[Row],
-    start: u8,
-    end: u8,
-    turns: &[u32],
-) -> Result<(), Refusal>
-    ensures answer { result ≡ turns_answer edges.now (rows_of rows.now) start end turns.now }
-    ensures means { Checked edges.now (rows_of rows.now) start end turns.now result }
-    ensures exact { (result ≡ Ok tt) ↔ Sound edges.now (rows_of rows.now) start end turns.now }
-    ensures claims { result ≡ Ok tt → Ends edges.now start end → Claim edges.now start end turns.now }
-{
-    ask_turns(edges, rows, start, end, turns)
+    /// Accepts turns for every edge that are in range, balance at every node, join every edge with turns to the end, and keep every row.
+    pub fn check_turns(self, turns: &[u32]) -> Result<(), Refusal>
+        ensures answer { result ≡ turns_answer self.entry.edges.now (rows_of self.entry.rows.now) self.entry.start self.entry.end turns.now }
+        ensures means { Checked self.entry.edges.now (rows_of self.entry.rows.now) self.entry.start self.entry.end turns.now result }
+        ensures exact { (result ≡ Ok tt) ↔ Sound self.entry.edges.now (rows_of self.entry.rows.now) self.entry.start self.entry.end turns.now }
+        ensures claims { result ≡ Ok tt → Ends self.entry.edges.now self.entry.start self.entry.end → Claim self.entry.edges.now self.entry.start self.entry.end turns.now }
+    {
+        self.ask_turns(turns)
+    }
 }
