@@ -1,5 +1,5 @@
 -- Distances that shrink over edges with turns, pass by pass, and the exits by them.
-use Rattle.std.proofs.Common.{◌≡◌, ℕ, zero, suc, ◌+◌, ◌<◌, ◌≤◌, Bool, true, false, List, length, get_or, set, replicate, sym, refl, ap, ◌∙◌, subst, ⊎_elim, add-one, arith, length-set, below_more}
+use Rattle.std.proofs.Common.{◌^◌, ◌≡◌, ℕ, zero, suc, ◌+◌, ◌<◌, ◌≤◌, Bool, true, false, List, length, get_or, set, replicate, sym, refl, ap, ◌∙◌, subst, ⊎_elim, add-one, arith, length-set, below_more}
 use Rattle.std.proofs.lemmas.List.{get_or-set_same, get_or-set_other, get_or-replicate, length-replicate}
 use Rattle.std.proofs.lemmas.List.Sums.{sum_by-set}
 use Rattle.std.proofs.lemmas.Bool.{both_ways, eqb-true, cases_eq, cases_lt}
@@ -90,6 +90,9 @@ module _ (es : List Edge) (ts : List ℕ) (end : ℕ) where
 
       there : (v : ℕ) → v < 256 → (v ≡ end → ⊥) → get_or (set (replicate 256 (length es + 2)) end 0) v 0 ≡ length es + 2
       there v h ne = get_or-set_other (replicate 256 (length es + 2)) end v 0 0 ne ∙ get_or-replicate 256 v (length es + 2) 0 h
+
+  pub only_end_small : end < 256 → length es < 2 ^ 62 → (v : ℕ) → v < 256 → get_or (set (replicate 256 (length es + 2)) end 0) v 0 < 2 ^ 63
+  only_end_small low few v h = omega (arith, (only_end low).most v h)
 
   pub nearing_on : (before after : List ℕ) (was settled : Bool) → Nearing es ts end before was → Pass es ts before after settled (length es) → Nearing es ts end after settled
   nearing_on before after was settled r pass = record {

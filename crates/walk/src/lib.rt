@@ -4,7 +4,6 @@
 mod exits;
 mod laws;
 mod stepping;
-mod turns;
 
 pub use exits::last_exits;
 pub use laws::{fewest_stands, walk_stands};

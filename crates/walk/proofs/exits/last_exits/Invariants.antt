@@ -4,4 +4,7 @@ use Rattle.walk.specs.Rule.{last_exit}
 use Rattle.walk.proofs.exits.last_exits.Given as goal
 
 abbrev pub invariant-loop-node : goal.invariant-loop-node
-invariant-loop-node l = (length l.exits ≡ 256) × ((w : ℕ) → w < l.node → get_or l.exits w 0 ≡ last_exit l.edges l.turns l.end w)
+invariant-loop-node l = record {
+  sized : length l.exits ≡ 256;
+  filled : (w : ℕ) → w < l.node → get_or l.exits w 0 ≡ last_exit l.flow.edges.now l.flow.turns.now l.end w;
+}

@@ -1,9 +1,14 @@
-use Rattle.std.proofs.Common.{arith, rules}
-use Rattle.walk.proofs.Searches.{taken_spare, taken_last}
+use Rattle.std.proofs.Common.{◌≡◌, true, false, Some, ap, ◌∙◌, rules}
+use borrow.Author.Tests.{tests}
+use Rattle.std.proofs.lemmas.Iterator.{first_from_Range}
+use Rattle.walk.specs.Rule.{spares}
+use Rattle.walk.proofs.Searches.{found_or_last}
 use Rattle.walk.proofs.stepping.choose.Goals as goal
 
-pub returns-then-has_spare : goal.returns-then-has_spare
-returns-then-has_spare c = taken_spare c.args.edges.now c.args.left.now c.args.at c.args.end c.args.last c.if-at-end.false c.loop-x.x (omega arith) (search rules) c.loop-x.invariant
-
 pub returns : goal.returns
-returns c = taken_last c.args.edges.now c.args.left.now c.args.at c.args.end c.args.last c.if-at-end.false (λ y h. c.loop-x.invariant y (omega arith))
+returns c =
+    let es = c.args.left.edges.now in
+    let spare = spares es c.args.left.turns.now c.args.at c.args.last in
+    ap Some c.unwrap_or.ensures
+    ∙ found_or_last es c.args.left.turns.now c.args.at c.args.end c.args.last c.if-at-end.false c.find-spare.result
+    (first_from_Range _ _ _ _ (λ x. spare x ≡ true) (λ x. spare x ≡ false) c.find-spare.ensures.ran (λ x q k. search (rules, tests)) (λ x q k. search (rules, tests)))

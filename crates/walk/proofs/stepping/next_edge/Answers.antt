@@ -1,15 +1,12 @@
-use Rattle.std.proofs.Common.{◌≡◌, ℕ, List, ap, ◌∙◌, rules}
+use Rattle.std.proofs.Common.{◌≡◌, get_or, ap, ◌∙◌, rules}
 use Rattle.walk.specs.Rule.{next, taken}
-use Rattle.walk.specs.Tables.{Tabled}
 use Rattle.walk.proofs.Standing.{stepped}
 use Rattle.walk.proofs.stepping.next_edge.Goals as goal
 
-pub returns : goal.returns
-returns c =
-    let rule : (claimed : List ℕ) → Tabled c.args.edges.now claimed c.args.end c.args.exits.now → c.choose.result ≡ next c.args.edges.now claimed c.args.end c.args.left.now c.args.at =
-    λ claimed table. c.choose.ensures ∙ ap (taken c.args.edges.now c.args.left.now c.args.at c.args.end) (table.all c.args.at (search rules)) in
-    record {
-      answer = c.choose.ensures;
-      rule = rule;
-      stands = λ start claimed handed claim table stands. stepped c.args.edges.now start c.args.end claimed claim handed c.args.left.now c.args.at stands c.choose.result (rule claimed table);
-    }
+pub returns-clause-stands : goal.returns-clause-stands
+returns-clause-stands c = λ start claimed handed claim table stands.
+    let es = c.args.left.edges.now in
+    let left = c.args.left.turns.now in
+    let rule : c.choose.result ≡ next es claimed c.args.end left c.args.at =
+    c.choose.ensures ∙ ap (λ v. taken es left c.args.at c.args.end (get_or c.args.exits.now v 0)) c.from.ensures ∙ ap (taken es left c.args.at c.args.end) (table.all c.args.at (search rules)) in
+    stepped es start c.args.end claimed claim handed left c.args.at stands c.choose.result rule

@@ -1,0 +1,21 @@
+use Rattle.std.proofs.Common.{false, ◌^◌, ◌<◌, length, rules}
+use Rattle.walk.proofs.Nearest.{only_end, only_end_small, nearing_on, all_far}
+use Rattle.walk.proofs.exits.Distances.to_end.Goals as goal
+
+pub invariant_of-table : goal.invariant_of-table
+invariant_of-table c =
+    let few : length c.args.flow.edges.now < 2 ^ 62 = search rules in
+    record { small = rw c.from.ensures (only_end_small c.args.flow.edges.now c.args.flow.turns.now c.args.end (search rules) few) }
+
+pub loop-init : goal.loop-init
+loop-init c = rw c.from.ensures (only_end c.args.flow.edges.now c.args.flow.turns.now c.args.end (search rules))
+
+pub loop-preserved : goal.loop-preserved
+loop-preserved c = rw c.loop-test.true at (nearing_on c.args.flow.edges.now c.args.flow.turns.now c.args.end c.loop.table.far c.shorten.new.self.far false c.shorten.result c.loop.invariant c.shorten.ensures)
+
+-- the last pass changed nothing
+pub returns : goal.returns
+returns c =
+    let es = c.args.flow.edges.now in
+    let ts = c.args.flow.turns.now in
+    all_far es ts c.args.end c.shorten.new.self.far (rw c.loop-test.false at (nearing_on es ts c.args.end c.loop.table.far c.shorten.new.self.far false c.shorten.result c.loop.invariant c.shorten.ensures))
