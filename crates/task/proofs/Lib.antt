@@ -5,10 +5,10 @@ pub mod Spreads
 pub mod Seals
 pub mod Linear
 pub mod ByPlaces
-mod Repeated
 mod Padded
 mod Rests
 mod ByEdges
 pub mod Flows
 pub mod Checks
 mod Costs
+pub mod Words

@@ -1,7 +1,8 @@
 -- The first number that passes a test, and the only one: what a search answers, and what the answer says.
-use Rattle.std.proofs.Common.{◌≡◌, ℕ, ◌<◌, ◌≤◌, Bool, true, false, cond, ◌&&◌, ltb, is_some, Some, None, Option, sym, refl, ap, ◌∙◌, ⊎_elim, arith}
-use Rattle.std.proofs.lemmas.Bool.{both_ways, cases_lt, cases_Bool, lt-ltb, le-ltb, ltb-true, ltb-false, and_parts, and_from, and_left, and_right, cond-true, cond-false}
-use Rattle.task.specs.Lowest.{lowest, below, first, sole}
+use Rattle.std.proofs.Common.{◌≡◌, ℕ, ◌+◌, ◌<◌, ◌≤◌, Bool, true, false, cond, ◌&&◌, ltb, is_some, Some, None, Option, sym, refl, ap, ◌∙◌, ⊎_elim, arith}
+use Rattle.std.proofs.lemmas.Bool.{both_ways, cases_lt, cases_eq, cases_Bool, lt-ltb, le-ltb, ltb-true, ltb-false, and_parts, and_from, and_left, and_right, cond-true, cond-false}
+use Rattle.std.specs.Option.{MatchOption}
+use Rattle.task.specs.Lowest.{lowest, below, first, sole, FirstFrom}
 use Rattle.task.proofs.Lowest.{lowest_passes, lowest_misses, lowest_le, lowest_is, lowest_none}
 
 -- ---- the first
@@ -99,3 +100,34 @@ module _ (p : ℕ → Bool) where
             let lt : lowest p n < v = ltb-true (lowest p n) v parts.1 in
             omega (arith, lt, vlow, all v vlow parts.0, all (lowest p n) (omega (arith, lt, vlow)) (lowest_passes p n (omega (arith, lt, vlow))))
         go false h = one (ltb-false (lowest second n) n h) (ltb (lowest p n) n) refl
+
+-- ---- `find` over a range of numbers, and over what is left of it
+
+module _ (p : ℕ → Bool) (n m : ℕ) (e : m ≡ n) where
+  pub found_first : (r : Option ℕ) → FirstFrom p 0 m r → r ≡ first p n
+  found_first None none = first_none p n (λ k low. none k (omega arith) (omega arith))
+  found_first (Some x) found = first_found p n x (omega (arith, found.1)) found.2 (λ k low. found.3 k (omega arith) low)
+
+  -- where the test is known only below a limit
+  pub found_below : (top : ℕ) → m ≤ top → (r : Option ℕ) →
+      MatchOption r ((k : ℕ) → 0 ≤ k → k < m → k < top → p k ≡ false) (λ i. (0 ≤ i) × (i < m) × (i < top → p i ≡ true) × ((k : ℕ) → 0 ≤ k → k < i → k < top → p k ≡ false)) → r ≡ first p n
+  found_below top le None none = first_none p n (λ k low. none k (omega arith) (omega arith) (omega arith))
+  found_below top le (Some x) found = first_found p n x (omega (arith, found.1)) (found.2 (omega (arith, found.1))) (λ k low. found.3 k (omega arith) low (omega (arith, found.1)))
+
+module _ (p : ℕ → Bool) (n : ℕ) where
+  pub found_none : FirstFrom p 0 n None → None ≡ sole p n
+  found_none none = sole_is p n None (λ v low. none v (omega arith) low)
+
+  module _ (s : ℕ) (found : FirstFrom p 0 n (Some s)) where
+    pub found_one : FirstFrom p (s + 1) n None → Some s ≡ sole p n
+    found_one none = sole_is p n (Some s) (
+      found.1,
+      found.2,
+      λ v low met. ⊎_elim
+          (λ (before : v < s). absurd (both_ways (p v) (found.3 v (omega arith) before) met))
+          (λ (after : s ≤ v). ⊎_elim (λ (is : v ≡ s). is) (λ (not_it : v ≡ s → ⊥). absurd (both_ways (p v) (none v (omega arith) low) met)) (cases_eq v s))
+          (cases_lt v s),
+    )
+
+    pub found_two : (v : ℕ) → FirstFrom p (s + 1) n (Some v) → None ≡ sole p n
+    found_two v more = sole_two p n s v (omega (arith, more.0)) more.1 found.2 more.2

@@ -1,5 +1,5 @@
 -- What is left, from an edge on, of a sum over edges and their turns. The sum ends with the shorter list.
-use Rattle.std.proofs.Common.{◌≡◌, ℕ, zero, suc, ◌+◌, ◌<◌, ◌≤◌, min, List, [], ◌∷◌, length, get_or, drop, le_of_suc-le-suc, not-suc-le-zero, add-one, arith}
+use Rattle.std.proofs.Common.{◌≡◌, ℕ, zero, suc, ◌+◌, ◌<◌, ◌≤◌, min, List, [], ◌∷◌, length, get_or, drop, sym, ap, ◌∙◌, le_of_suc-le-suc, not-suc-le-zero, add-one, arith}
 use Rattle.task.specs.declared.edges.Edge.{Edge}
 use Rattle.task.specs.Graph.{edge_at}
 use Rattle.task.proofs.Linear.{Linear}
@@ -16,15 +16,31 @@ module _ {A : Type 0} {none : A} {add : A → A → A} {gives : Edge → ℕ →
       total (drop x es) (drop x ts) ≡ add (gives (edge_at es x) (get_or ts x 0)) (total (drop (x + 1) es) (drop (x + 1) ts))
   rest_more es ts x low = rw add-one (rest es ts x (omega arith) (omega arith))
 
+  spent : (es : List Edge) → total es [] ≡ none
+  spent [] = laws.no_edges []
+  spent (e ∷ es) = laws.turns_end e es
+
+  none_left : (e : Edge) (es ds : List Edge) → total ds [] ≡ add (gives e 0) (total es [])
+  none_left e es ds = spent ds ∙ sym (ap (λ a. add a (total es [])) (laws.no_turns e) ∙ ap (add none) (spent es) ∙ laws.add_none none)
+
+  next : (es : List Edge) (ts : List ℕ) (x : ℕ) → x < length es →
+      total (drop x es) (drop x ts) ≡ add (gives (edge_at es x) (get_or ts x 0)) (total (drop (suc x) es) (drop (suc x) ts))
+  next [] ts x low = absurd (not-suc-le-zero low)
+  next (e ∷ es) (t ∷ ts) zero low = laws.one_more e es t ts
+  next (e ∷ es) (t ∷ ts) (suc x) low = next es ts x (le_of_suc-le-suc low)
+  next (e ∷ es) [] zero low = none_left e es (e ∷ es)
+  next (e ∷ es) [] (suc x) low = none_left (edge_at es x) (drop (suc x) es) (drop x es)
+
+  -- the same past the end of the turns, where an edge has none
+  pub rest_next : (es : List Edge) (ts : List ℕ) (x : ℕ) → x < length es →
+      total (drop x es) (drop x ts) ≡ add (gives (edge_at es x) (get_or ts x 0)) (total (drop (x + 1) es) (drop (x + 1) ts))
+  rest_next es ts x low = rw add-one (next es ts x low)
+
   pub rest_all : (es : List Edge) (ts : List ℕ) (x : ℕ) → min (length es) (length ts) ≤ x → total (drop x es) (drop x ts) ≡ none
   rest_all [] ts zero h = laws.no_edges ts
   rest_all [] [] (suc x) h = laws.no_edges []
   rest_all [] (t ∷ ts) (suc x) h = laws.no_edges (drop x ts)
   rest_all (e ∷ es) [] zero h = laws.turns_end e es
   rest_all (e ∷ es) [] (suc x) h = spent (drop x es)
-    where
-      spent : (ds : List Edge) → total ds [] ≡ none
-      spent [] = laws.no_edges []
-      spent (d ∷ ds) = laws.turns_end d ds
   rest_all (e ∷ es) (t ∷ ts) zero h = absurd (omega arith)
   rest_all (e ∷ es) (t ∷ ts) (suc x) h = rest_all es ts x (omega arith)

@@ -21,6 +21,14 @@ relation_of (pos (suc (suc zero))) = Some Equal
 relation_of (pos (suc (suc (suc n)))) = None
 relation_of (negsuc n) = None
 
+abbrev pub or_refused : Option Relation → Result Relation Refusal
+or_refused (Some relation) = Ok relation
+or_refused None = Err RowRelation
+
+-- the relation of a number, or the question that it fails
+abbrev pub related : ℤ → Result Relation Refusal
+related n = or_refused (relation_of n)
+
 -- a coefficient for each of 64 blocks: 0 past the list
 abbrev pub padded : List ℤ → List ℤ
 padded cs = cs ++ replicate (64 - length cs) (pos 0)

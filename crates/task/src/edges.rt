@@ -1,18 +1,17 @@
 // The edges of a graph.
-ghost use Rattle.std.specs.Prelude.{◌≡◌, Decides};
-ghost use Rattle.task.specs.Edges.{edge_made, repeated, Repeats, same_ends};
+ghost use Rattle.std.specs.Prelude.{◌≡◌, Decides, nat_le};
+ghost use Rattle.price.specs.Questions.{ask};
+ghost use Rattle.task.specs.Edges.{edge_made, repeated, Repeats};
 ghost use Rattle.task.specs.Sides.{end_at, other_side};
 
 use price::Refusal;
 
-const MAX_NODE: u32 = 31;
+const MAX_NODE: u8 = 31;
 
-const MAX_BLOCK: u32 = 63;
-
-const MAX_PART: u32 = 65_535;
+const MAX_BLOCK: u8 = 63;
 
 /// An edge from one node to another: the block that it carries, and the price of a turn.
-#[derive(Clone, Copy)]
+#[derive(Clone, Copy, Debug, PartialEq, Eq)]
 pub struct Edge {
     pub tail: u8,
     pub head: u8,
@@ -21,11 +20,28 @@ pub struct Edge {
     pub reads: u16,
 }
 
-// The two ends of an edge.
+// The two ends of an edge; what the calls below promise speaks of a side, which two closures would not name.
 #[derive(Clone, Copy)]
 pub(crate) enum Side {
     Tail,
     Head,
+}
+
+// The number of a node or of a block.
+fn numbered(number: u32, max: u8) -> Result<u8, Refusal>
+    ensures { result ≡ ask (nat_le number max) Refusal.EdgeNumbers (Ok number) }
+{
+    u8::try_from(number)
+        .ok()
+        .filter(|number| *number <= max)
+        .ok_or(Refusal::EdgeNumbers)
+}
+
+// One part of an edge's price.
+fn part(number: u32) -> Result<u16, Refusal>
+    ensures { result ≡ ask (nat_le number 65535) Refusal.EdgePrice (Ok number) }
+{
+    u16::try_from(number).map_err(|_| Refusal::EdgePrice)
 }
 
 impl Edge {
@@ -33,18 +49,12 @@ impl Edge {
     pub fn new(tail: u32, head: u32, block: u32, cycles: u32, reads: u32) -> Result<Edge, Refusal>
         ensures { result ≡ edge_made tail head block cycles reads }
     {
-        if tail > MAX_NODE || head > MAX_NODE || block > MAX_BLOCK {
-            return Err(Refusal::EdgeNumbers);
-        }
-        if cycles > MAX_PART || reads > MAX_PART {
-            return Err(Refusal::EdgePrice);
-        }
         Ok(Edge {
-            tail: tail as u8,
-            head: head as u8,
-            block: block as u8,
-            cycles: cycles as u16,
-            reads: reads as u16,
+            tail: numbered(tail, MAX_NODE)?,
+            head: numbered(head, MAX_NODE)?,
+            block: numbered(block, MAX_BLOCK)?,
+            cycles: part(cycles)?,
+            reads: part(reads)?,
         })
     }
 
@@ -70,21 +80,12 @@ impl Side {
     }
 }
 
-fn has_same_ends(edge: &Edge, other: &Edge) -> bool
-    ensures { result ≡ same_ends edge.now other.now }
-{
-    edge.tail == other.tail && edge.head == other.head
-}
-
 /// Whether some edge of the list has the tail and the head of this one.
 pub fn repeats(edges: &[Edge], edge: &Edge) -> bool
     ensures answer { result ≡ repeated edge.now edges.now }
     ensures means { Decides result (Repeats edges.now edge.now) }
 {
-    for other in edges {
-        if has_same_ends(other, edge) {
-            return true;
-        }
-    }
-    false
+    edges
+        .iter()
+        .any(|other| (other.tail, other.head) == (edge.tail, edge.head))
 }

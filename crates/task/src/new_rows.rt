@@ -1,7 +1,7 @@
 // New rows.
 ghost use Rattle.std.specs.Prelude.{◌≡◌, ◌≤◌, length};
-ghost use Rattle.task.specs.Coefficients.{all_small, in_range};
-ghost use Rattle.task.specs.NewRows.{mapped, padded, relation_of, row_made, row_of};
+ghost use Rattle.task.specs.Coefficients.{all_small};
+ghost use Rattle.task.specs.NewRows.{mapped, padded, related, row_made, row_of};
 
 use crate::rows::{BLOCKS, Relation, Row};
 use price::Refusal;
@@ -10,33 +10,12 @@ const MAX_COEFFICIENT: i32 = 1_000;
 
 const MAX_K: i32 = 1_048_576;
 
-// From -1,000 to 1,000, ends included.
-fn is_small(coefficient: i32) -> bool
-    ensures { result ≡ in_range 1000 coefficient }
-{
-    -MAX_COEFFICIENT <= coefficient && coefficient <= MAX_COEFFICIENT
-}
-
 fn are_small(coefficients: &[i32]) -> bool
     ensures { result ≡ all_small coefficients.now }
 {
-    for coefficient in coefficients {
-        if !is_small(*coefficient) {
-            return false;
-        }
-    }
-    true
-}
-
-fn relation_of(number: i32) -> Option<Relation>
-    ensures { result ≡ relation_of number }
-{
-    match number {
-        0 => Some(Relation::Below),
-        1 => Some(Relation::AtMost),
-        2 => Some(Relation::Equal),
-        _ => None,
-    }
+    coefficients.iter().all(|coefficient| (-MAX_COEFFICIENT..=MAX_COEFFICIENT).contains(
+        coefficient,
+    ))
 }
 
 // The coefficients in front, and zeros after them.
@@ -45,10 +24,23 @@ fn with_zeros(coefficients: &[i32]) -> [i32; BLOCKS]
     ensures { result ≡ padded coefficients.now }
 {
     let mut all = [0; BLOCKS];
-    for block in 0..coefficients.len() {
-        all[block] = coefficients[block];
-    }
+    all[..coefficients.len()].copy_from_slice(coefficients);
     all
+}
+
+impl TryFrom<i32> for Relation {
+    type Error = Refusal;
+
+    ghost try_from_gives = { λ number relation. relation ≡ related number };
+
+    fn try_from(number: i32) -> Result<Relation, Refusal> {
+        match number {
+            0 => Ok(Relation::Below),
+            1 => Ok(Relation::AtMost),
+            2 => Ok(Relation::Equal),
+            _ => Err(Refusal::RowRelation),
+        }
+    }
 }
 
 impl Row {
@@ -56,10 +48,11 @@ impl Row {
     pub fn new(relation: i32, k: i32, coefficients: &[i32]) -> Result<Row, Refusal>
         ensures { mapped row_of result ≡ row_made relation k coefficients.now }
     {
-        let Some(relation) = relation_of(relation) else {
-            return Err(Refusal::RowRelation);
-        };
-        if k < -MAX_K || k > MAX_K || coefficients.len() > BLOCKS || !are_small(coefficients) {
+        let relation = Relation::try_from(relation)?;
+        if !(-MAX_K..=MAX_K).contains(&k)
+            || coefficients.len() > BLOCKS
+            || !are_small(coefficients)
+        {
             return Err(Refusal::RowNumbers);
         }
         Ok(Row {

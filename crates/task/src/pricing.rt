@@ -28,13 +28,10 @@ fn cost(edge: &Edge, turns: u32) -> (u128, u128)
 fn priced(cycles: u128, reads: u128) -> Result<Price, Refusal>
     ensures { Priced (pos cycles, pos reads) result }
 {
-    let Ok(cycles) = i64::try_from(cycles) else {
-        return Err(Refusal::PriceRange);
-    };
-    let Ok(reads) = i64::try_from(reads) else {
-        return Err(Refusal::PriceRange);
-    };
-    Price::new(cycles, reads)
+    match (i64::try_from(cycles), i64::try_from(reads)) {
+        (Ok(cycles), Ok(reads)) => Price::new(cycles, reads),
+        _ => Err(Refusal::PriceRange),
+    }
 }
 
 impl Flow<'_> {

@@ -1,12 +1,12 @@
 // The start and the end of a graph.
-ghost use Rattle.std.specs.Prelude.{◌≡◌, ℕ, ◌≤◌, ◌↔◌, Ok};
+ghost use Rattle.std.specs.Prelude.{◌≡◌, ℕ, ◌<◌, ◌≤◌, ◌↔◌, Ok, IfSome};
 ghost use Rattle.task.specs.EndsAnswer.{astray, ends_answer};
-ghost use Rattle.task.specs.Lowest.{first, sole};
+ghost use Rattle.task.specs.Lowest.{first, FirstFrom, sole};
 ghost use Rattle.task.specs.Sealing.{Ends, EveryEdge, Sealed};
 ghost use Rattle.task.specs.Sides.{node_count, touched, untouched};
 
 use crate::edges::{Edge, Side};
-use crate::spreading::joined_to;
+use crate::tasks::Flow;
 use price::Refusal;
 
 /// How many nodes there are: one more than the highest number that an edge names.
@@ -14,55 +14,49 @@ pub fn nodes(edges: &[Edge]) -> usize
     ensures count { result ≡ node_count edges.now }
     ensures few { result ≤ 256 }
 {
-    let mut count = 0;
-    for edge in edges {
-        count = count
-            .max(edge.tail as usize + 1)
-            .max(edge.head as usize + 1);
-    }
-    count
+    edges
+        .iter()
+        .map(|edge| edge.tail.max(edge.head))
+        .max()
+        .map_or(0, |highest| usize::from(highest) + 1)
 }
 
 // Whether some edge has the node on that side.
 fn touches(edges: &[Edge], side: Side, node: usize) -> bool
     ensures { result ≡ touched side node edges.now }
 {
-    for edge in edges {
-        if edge.node(side) as usize == node {
-            return true;
-        }
-    }
-    false
+    edges
+        .iter()
+        .any(|edge| usize::from(edge.node(side)) == node)
+}
+
+// The lowest node from `from` on that no edge has on that side.
+fn first_free(edges: &[Edge], side: Side, from: usize) -> Option<usize>
+    ensures found { FirstFrom (untouched side edges.now) from (node_count edges.now) result }
+    ensures low { IfSome result (λ node. node < 256) }
+{
+    (from..nodes(edges)).find(|node| !touches(edges, side, *node))
 }
 
 // The only node that no edge has on that side.
 fn only_free(edges: &[Edge], side: Side) -> Option<u8>
     ensures { result ≡ sole (untouched side edges.now) (node_count edges.now) }
 {
-    let mut only = None;
-    for candidate in 0..nodes(edges) {
-        if !touches(edges, side, candidate) {
-            if only.is_some() {
-                return None;
-            }
-            only = Some(candidate as u8);
-        }
+    let only = first_free(edges, side, 0)?;
+    match first_free(edges, side, only + 1) {
+        Some(_) => None,
+        None => u8::try_from(only).ok(),
     }
-    only
 }
 
 // The lowest node on no path from the start to the end.
 fn first_astray(edges: &[Edge], start: u8, end: u8) -> Option<usize>
     ensures { result ≡ first (astray edges.now start end) (node_count edges.now) }
 {
-    let from_start = joined_to(edges, &[], Side::Head, start);
-    let to_end = joined_to(edges, &[], Side::Tail, end);
-    for node in 0..nodes(edges) {
-        if !from_start[node] || !to_end[node] {
-            return Some(node);
-        }
-    }
-    None
+    let every_edge = Flow { edges, turns: &[] };
+    let from_start = every_edge.joined_to(Side::Head, start);
+    let to_end = every_edge.joined_to(Side::Tail, end);
+    (0..nodes(edges)).find(|node| !(from_start[*node] && to_end[*node]))
 }
 
 // The questions in their order.

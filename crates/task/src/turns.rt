@@ -1,96 +1,64 @@
 // Whether turns are sound: those that a run can have, and that keep every row.
-ghost use Rattle.std.specs.Prelude.{◌≡◌, ◌*◌, ◌^◌, ◌<◌, ◌≤◌, not, ◌&&◌, ◌↔◌, length, Ok};
-ghost use Rattle.task.specs.Graph.{head_of};
-ghost use Rattle.task.specs.Lowest.{first, one_if};
+ghost use Rattle.std.specs.Prelude.{◌≡◌, ◌*◌, ◌^◌, ◌≤◌, ◌↔◌, length, Ok};
+ghost use Rattle.task.specs.Lowest.{first};
 ghost use Rattle.task.specs.Sealing.{Ends};
-ghost use Rattle.task.specs.Sides.{is_live, node_count};
+ghost use Rattle.task.specs.Sides.{node_count};
 ghost use Rattle.task.specs.Sound.{Checked, Claim, Sound};
-ghost use Rattle.task.specs.Spreading.{is_marked};
 ghost use Rattle.task.specs.TurnsAnswer.{over, rows_of, stranded, turns_answer, turns_at, unbalanced};
 
-use crate::edges::{Edge, Side};
-use crate::keeping::first_broken;
+use crate::edges::Side;
 use crate::sealing::nodes;
-use crate::spreading::{joined_to, live};
-use crate::tasks::{NODES, Task};
+use crate::tasks::{Flow, Task};
 use price::Refusal;
 
 const MAX_TURNS: u32 = 1_048_575;
 
-// The lowest edge with too many turns.
-fn first_over(turns: &[u32]) -> Option<usize>
-    ensures { result ≡ first (over turns.now) (length turns.now) }
-{
-    for x in 0..turns.len() {
-        if turns[x] > MAX_TURNS {
-            return Some(x);
-        }
+impl Flow<'_> {
+    // The lowest edge with too many turns.
+    fn first_over(self) -> Option<usize>
+        ensures { result ≡ first (over self.entry.turns.now) (length self.entry.turns.now) }
+    {
+        self.turns.iter().position(|turns| *turns > MAX_TURNS)
     }
-    None
-}
 
-// The turns of the edges that have the node on that side, added up.
-fn turns_at(edges: &[Edge], turns: &[u32], side: Side, node: usize) -> u128
-    ensures sum { result ≡ turns_at side node edges.now turns.now }
-    ensures small { result ≤ 2 ^ 32 * 2 ^ 64 }
-{
-    let mut sum = 0;
-    for x in 0..edges.len().min(turns.len()) {
-        if edges[x].node(side) as usize == node {
-            sum += turns[x] as u128;
+    // The turns of the edges that have the node on that side, added up.
+    fn turns_at(self, side: Side, node: usize) -> u128
+        ensures sum { result ≡ turns_at side node self.entry.edges.now self.entry.turns.now }
+        ensures small { result ≤ 2 ^ 32 * 2 ^ 64 }
+    {
+        let mut sum = 0;
+        for (x, edge) in self.edges.iter().enumerate() {
+            if usize::from(edge.node(side)) == node {
+                sum += u128::from(self.turns_of(x));
+            }
         }
+        sum
     }
-    sum
-}
 
-fn one_if(test: bool) -> u128
-    ensures { result ≡ one_if test }
-{
-    if test { 1 } else { 0 }
-}
-
-// Whether the turns entering the node, one more at the start, differ from those leaving it, one more at the end.
-fn is_unbalanced(edges: &[Edge], turns: &[u32], start: u8, end: u8, node: usize) -> bool
-    ensures { result ≡ unbalanced edges.now start end turns.now node }
-{
-    let entering = turns_at(edges, turns, Side::Head, node) + one_if(node == start as usize);
-    let leaving = turns_at(edges, turns, Side::Tail, node) + one_if(node == end as usize);
-    entering != leaving
-}
-
-// The lowest node out of balance.
-fn first_unbalanced(edges: &[Edge], turns: &[u32], start: u8, end: u8) -> Option<usize>
-    ensures { result ≡ first (unbalanced edges.now start end turns.now) (node_count edges.now) }
-{
-    for node in 0..nodes(edges) {
-        if is_unbalanced(edges, turns, start, end, node) {
-            return Some(node);
-        }
+    // Whether the turns entering the node, one more at the start, differ from those leaving it, one more at the end.
+    fn is_unbalanced(self, start: u8, end: u8, node: usize) -> bool
+        ensures { result ≡ unbalanced self.entry.edges.now start end self.entry.turns.now node }
+    {
+        let entering = self.turns_at(Side::Head, node) + u128::from(node == usize::from(start));
+        let leaving = self.turns_at(Side::Tail, node) + u128::from(node == usize::from(end));
+        entering != leaving
     }
-    None
-}
 
-// Whether edge `x` has turns, and the node that it enters is not marked.
-fn is_stranded(edges: &[Edge], turns: &[u32], x: usize, marks: &[bool; NODES]) -> bool
-    requires { x < length edges.now }
-    ensures answer { result ≡ (is_live turns.now x && not (is_marked marks.now (head_of edges.now x))) }
-    ensures low { head_of edges.now x < 256 }
-{
-    let head = edges[x].head as usize;
-    live(turns, x) && !marks[head]
-}
-
-// The lowest edge with turns from whose head edges with turns do not lead to the end.
-fn first_stranded(edges: &[Edge], turns: &[u32], end: u8) -> Option<usize>
-    ensures { result ≡ first (stranded edges.now end turns.now) (length edges.now) }
-{
-    let to_end = joined_to(edges, turns, Side::Tail, end);
-    for x in 0..edges.len() {
-        if is_stranded(edges, turns, x, &to_end) {
-            return Some(x);
-        }
+    // The lowest node out of balance.
+    fn first_unbalanced(self, start: u8, end: u8) -> Option<usize>
+        ensures { result ≡ first (unbalanced self.entry.edges.now start end self.entry.turns.now) (node_count self.entry.edges.now) }
+    {
+        (0..nodes(self.edges)).find(|node| self.is_unbalanced(start, end, *node))
     }
-    None
+
+    // The lowest edge with turns from whose head edges with turns do not lead to the end.
+    fn first_stranded(self, end: u8) -> Option<usize>
+        ensures { result ≡ first (stranded self.entry.edges.now end self.entry.turns.now) (length self.entry.edges.now) }
+    {
+        let to_end = self.joined_to(Side::Tail, end);
+        self.edges.iter().enumerate().position(|(x, edge)| self.is_live(x)
+            && !to_end[usize::from(edge.head)])
+    }
 }
 
 impl Task<'_> {
@@ -101,16 +69,20 @@ impl Task<'_> {
         if turns.len() != self.edges.len() {
             return Err(Refusal::TurnsCount);
         }
-        if let Some(edge) = first_over(turns) {
+        let flow = Flow {
+            edges: self.edges,
+            turns,
+        };
+        if let Some(edge) = flow.first_over() {
             return Err(Refusal::TurnsRange { edge });
         }
-        if let Some(node) = first_unbalanced(self.edges, turns, self.start, self.end) {
+        if let Some(node) = flow.first_unbalanced(self.start, self.end) {
             return Err(Refusal::Unbalanced { node });
         }
-        if let Some(edge) = first_stranded(self.edges, turns, self.end) {
+        if let Some(edge) = flow.first_stranded(self.end) {
             return Err(Refusal::Stranded { edge });
         }
-        if let Some(row) = first_broken(self.edges, self.rows, turns) {
+        if let Some(row) = flow.first_broken(self.rows) {
             return Err(Refusal::RowBroken { row });
         }
         Ok(())

@@ -1,14 +1,12 @@
-use Rattle.std.proofs.Common.{arith}
-use Rattle.std.proofs.lemmas.List.{at_drop_more, at_drop_all}
-use Rattle.std.proofs.lemmas.Bool.Decides.{nat_tests}
-use Rattle.task.specs.Coefficients.{all_small}
+use Rattle.std.proofs.Common.{◌∙◌, rules}
+use borrow.Author.Tests.{tests}
+use Rattle.std.proofs.lemmas.Iterator.{YieldsList-from_slice}
+use Rattle.std.proofs.lemmas.Iterator.Search.{all_from_yields_List}
+use Rattle.task.specs.Coefficients.{in_range}
+use Rattle.task.proofs.Words.{all_in_range}
 use Rattle.task.proofs.new_rows.are_small.Goals as goal
 
-pub returns-then-not-is_small : goal.returns-then-not-is_small
-returns-then-not-is_small c = grind (arith, nat_tests, at_drop_more all_small c.args.coefficients.now c.loop-coefficient.coefficient-index)
-
-pub loop-coefficient-preserved : goal.loop-coefficient-preserved
-loop-coefficient-preserved c = grind (arith, nat_tests, at_drop_more all_small c.args.coefficients.now c.loop-coefficient.coefficient-index)
-
 pub returns : goal.returns
-returns c = grind (arith, nat_tests, at_drop_all all_small c.args.coefficients.now c.loop-coefficient.coefficient-index)
+returns c =
+    all_from_yields_List (in_range 1000) _ _ _ c.all.ensures.ran (YieldsList-from_slice c.args.coefficients.now cc) (λ x b q k. search (rules, tests))
+    ∙ all_in_range c.args.coefficients.now

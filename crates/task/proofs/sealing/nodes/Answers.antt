@@ -1,10 +1,17 @@
-use Rattle.std.proofs.Common.{arith}
-use Rattle.std.proofs.lemmas.List.{at_drop_more, at_drop_all}
-use Rattle.task.specs.Sides.{node_count}
+use Rattle.std.proofs.Common.{◌≡◌, ◌+◌, ◌∙◌, max, sym, rules}
+use borrow.Author.Tests.{tests}
+use Rattle.std.specs.Option.{MatchOption}
+use Rattle.std.proofs.lemmas.Iterator.Adapters.{option_map_id}
+use Rattle.std.proofs.lemmas.Iterator.{YieldsList-from_slice, YieldsList-from_map}
+use Rattle.std.proofs.lemmas.Iterator.Consumers.{YieldsList-at, max_from_yields_List}
+use Rattle.task.specs.declared.edges.Edge.{Edge}
+use Rattle.task.proofs.Words.{one_past_highest}
 use Rattle.task.proofs.sealing.nodes.Goals as goal
 
-pub loop-edge-preserved : goal.loop-edge-preserved
-loop-edge-preserved c = grind (arith, at_drop_more node_count c.args.edges.now c.loop-edge.edge-index)
-
-pub returns : goal.returns
-returns c = grind (arith, at_drop_all node_count c.args.edges.now c.loop-edge.edge-index)
+pub returns-clause-count : goal.returns-clause-count
+returns-clause-count c =
+    let so : MatchOption c.max.result (c.map_or.result ≡ 0) (λ highest. c.map_or.result ≡ highest + 1) = search (rules, tests) in
+    one_past_highest c.args.edges.now c.max.result
+    (sym (option_map_id c.max.result) ∙ max_from_yields_List _ _ c.max.ensures.ran
+    (YieldsList-from_map _ (λ (e : Edge). max e.tail e.head) (YieldsList-at c.map.ensures.source (YieldsList-from_slice c.args.edges.now cc)) c.map.ensures.closure (λ x r q k. search (rules, tests))))
+    c.map_or.result so

@@ -1,15 +1,16 @@
-use Rattle.std.proofs.Common.{◌≡◌, sym, subst, arith}
-use Rattle.std.proofs.lemmas.Bool.{not_from_false}
-use Rattle.task.specs.Sides.{node_count, touched, untouched}
-use Rattle.task.proofs.Only.{Sofar, sole_more, sole_is}
+use Rattle.std.proofs.Common.{◌≡◌, Some, ◌∙◌, rules}
+use Rattle.task.specs.Sides.{node_count, untouched}
+use Rattle.task.proofs.Only.{found_none, found_one, found_two}
 use Rattle.task.proofs.sealing.only_free.Goals as goal
 
-pub returns-then-is_some : goal.returns-then-is_some
-returns-then-is_some c = sole_more (untouched c.args.side c.args.edges.now) (node_count c.args.edges.now) c.loop-candidate.only c.loop-candidate.candidate c.loop-candidate.invariant
-    c.if-is_some.ensures (omega arith) (not_from_false (touched c.args.side c.loop-candidate.candidate c.args.edges.now) (sym c.if-not-touches.ensures))
+pub returns-in_err-only : goal.returns-in_err-only
+returns-in_err-only c = search (rules, found_none)
 
-pub returns : goal.returns
-returns c =
-    let all : c.loop-candidate.candidate ≡ node_count c.args.edges.now = omega arith in
-    sole_is (untouched c.args.side c.args.edges.now) (node_count c.args.edges.now) c.loop-candidate.only
-    (subst (λ n. Sofar (untouched c.args.side c.args.edges.now) n c.loop-candidate.only) all c.loop-candidate.invariant)
+pub returns-in-Some : goal.returns-in-Some
+returns-in-Some c =
+    found_two (untouched c.args.side c.args.edges.now) (node_count c.args.edges.now) c.in_ok-only.only c.in_ok-only.ensures.found c.in-Some.field-0 c.in-Some.ensures.found
+
+pub returns-in-None : goal.returns-in-None
+returns-in-None c =
+    let same : c.ok.result ≡ Some c.in_ok-only.only = search rules in
+    same ∙ found_one (untouched c.args.side c.args.edges.now) (node_count c.args.edges.now) c.in_ok-only.only c.in_ok-only.ensures.found c.in-None.ensures.found

@@ -3,10 +3,10 @@ use Rattle.std.proofs.Common.{◌+◌, not}
 use Rattle.task.specs.Lowest.{one_if}
 use Rattle.task.specs.Spreading.{unmarked}
 use Rattle.task.proofs.Spreads.{Marked}
-use Rattle.task.proofs.spreading.joined_to.Given as goal
+use Rattle.task.proofs.tasks.Flow.joined_to.Given as goal
 
 abbrev pub invariant-loop-settled : goal.invariant-loop-settled
-invariant-loop-settled l = Marked l.edges l.turns l.side l.goal l.marks l.settled
+invariant-loop-settled l = Marked l.self.edges.now l.self.turns.now l.side l.goal l.marks l.settled
 
 abbrev pub decreases-loop-settled : goal.decreases-loop-settled
 decreases-loop-settled l = unmarked l.marks + one_if (not l.settled)

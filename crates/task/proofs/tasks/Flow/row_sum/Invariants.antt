@@ -3,9 +3,9 @@ use Rattle.std.proofs.Common.{◌≡◌, ◌*◌, ◌^◌, drop, ◌+ℤ◌}
 use Rattle.price.specs.Ranges.{Within}
 use Rattle.task.specs.NewRows.{row_of}
 use Rattle.task.proofs.ByEdges.{by_edges}
-use Rattle.task.proofs.keeping.row_sum.Given as goal
+use Rattle.task.proofs.tasks.Flow.row_sum.Given as goal
 
 abbrev pub invariant-loop-x : goal.invariant-loop-x
 invariant-loop-x l =
-    (l.sum +ℤ by_edges (row_of l.row) (drop l.x l.edges) (drop l.x l.turns) ≡ by_edges (row_of l.row) l.edges l.turns)
+    (l.sum +ℤ by_edges (row_of l.row) (drop l.x l.self.edges.now) (drop l.x l.self.turns.now) ≡ by_edges (row_of l.row) l.self.edges.now l.self.turns.now)
     × Within (2 ^ 63 * l.x) l.sum
