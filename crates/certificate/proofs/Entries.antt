@@ -1,5 +1,6 @@
 -- What stands where in a column, and a step of the sum over it.
-use Rattle.std.proofs.Common.{◌≡◌, ℕ, ◌+◌, ◌-◌, ◌*◌, ◌<◌, ◌≤◌, List, map, length, get_or, ℤ, pos, ◌+ℤ◌, ◌*ℤ◌, sym, ap, ◌∙◌, add-one, arith}
+use Rattle.price.specs.Pairs.{Pair, zero, ◌⊕◌, times}
+use Rattle.std.proofs.Common.{◌≡◌, ℕ, ◌+◌, ◌-◌, ◌<◌, ◌≤◌, List, map, length, get_or, ℤ, pos, sym, ap, ◌∙◌, add-one, arith}
 use Rattle.std.proofs.lemmas.List.{get_or_append_left, get_or-append_right, get_or-map, length-map}
 use Rattle.certificate.specs.declared.cases.Column.{Column}
 use Rattle.task.specs.declared.rows.Row.{Row}
@@ -28,6 +29,5 @@ module _ (column : Column) (rows : List Row) (path : List Branch) (i : ℕ) wher
       get_or-append_right (map of_row rows) (map of_turn path) (length rows) i (pos 0) (length-map rows of_row) l
       ∙ get_or-map of_turn path (i - length rows) t (pos 0) (omega arith) ∙ ap of_turn (sym e)
 
-pub charged_more : (xs ms : List ℤ) (part n : ℕ) (s x m : ℤ) → s ≡ charged xs ms part n → x ≡ get_or xs n (pos 0) → m ≡ get_or ms (2 * n + part) (pos 0) →
-    s +ℤ x *ℤ m ≡ charged xs ms part (n + 1)
-charged_more xs ms part n s x m p q r = (λ i. p i +ℤ q i *ℤ r i) ∙ sym (ap (charged xs ms part) (add-one n))
+pub charged_more : (xs : List ℤ) (ms : List Pair) (n : ℕ) (s m : Pair) (x : ℤ) → s ≡ charged xs ms n → x ≡ get_or xs n (pos 0) → m ≡ get_or ms n zero → s ⊕ times x m ≡ charged xs ms (n + 1)
+charged_more xs ms n s m x p q r = (λ i. p i ⊕ times (q i) (r i)) ∙ sym (ap (charged xs ms) (add-one n))

@@ -26,12 +26,17 @@ module _ {nodes rows : ℕ} {le : Pair → Pair → Bool} {unit : Pair} {task : 
   depth : first_record nodes (rows + length (branches_of path)) xs ≡ first_record nodes (rows + path.depth) xs
   depth = ap (λ (k : ℕ). first_record nodes (rows + k) xs) (same_depth path)
 
-  pub at_record : (r : Record) (v : TreeRecord) (ys : List ℤ) → ◌≡◌ {A = Option (TreeRecord × List ℤ)} (Some (held r, ys)) (first_record nodes (rows + path.depth) xs) → held r ≡ v →
-      At nodes rows le unit task c whole all (branches_of path) n xs (v, ys)
-  at_record r v ys h q = next nodes rows le unit task c whole all (branches_of path) n xs so (v, ys) (depth ∙ sym h ∙ ap (λ z. Some (z, ys)) q)
+  -- the record is read with these numbers of nodes and rows
+  module _ {m k : ℕ} (p : m ≡ nodes) (q : k ≡ rows + path.depth) where
+    whole_shape : first_record m k xs ≡ first_record nodes (rows + path.depth) xs
+    whole_shape = λ i. first_record (p i) (q i) xs
 
-  pub at_end : ◌≡◌ {A = Option (TreeRecord × List ℤ)} None (first_record nodes (rows + path.depth) xs) → ◌≡◌ {A = Answer} (Ok tt) all
-  at_end h = over nodes rows le unit task c whole all (branches_of path) n xs so (depth ∙ sym h)
+    pub at_record : (r : Record) (v : TreeRecord) (ys : List ℤ) → ◌≡◌ {A = Option (TreeRecord × List ℤ)} (Some (held r, ys)) (first_record m k xs) → held r ≡ v →
+        At nodes rows le unit task c whole all (branches_of path) n xs (v, ys)
+    at_record r v ys h e = next nodes rows le unit task c whole all (branches_of path) n xs so (v, ys) (depth ∙ sym (h ∙ whole_shape) ∙ ap (λ z. Some (z, ys)) e)
+
+    pub at_end : ◌≡◌ {A = Option (TreeRecord × List ℤ)} None (first_record m k xs) → ◌≡◌ {A = Answer} (Ok tt) all
+    at_end h = over nodes rows le unit task c whole all (branches_of path) n xs so (depth ∙ sym (h ∙ whole_shape))
 
 -- the same splits, told otherwise
 pub moved : {nodes rows : ℕ} {le : Pair → Pair → Bool} {unit : Pair} {task : Task} {c : Pair} {whole : ℕ} {all : Answer} {n : ℕ} {xs : List ℤ} (ts us : List splits.Branch) → ts ≡ us →

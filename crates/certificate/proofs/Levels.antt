@@ -11,12 +11,12 @@ use Rattle.certificate.specs.declared.cases.Column.{Column}
 use Rattle.certificate.specs.declared.cases.Column.TheVariants.{Edge, Limit}
 use Rattle.certificate.specs.declared.cases.Leaf.{Leaf}
 use Rattle.certificate.specs.declared.branches.Branch.{Branch}
-use Rattle.certificate.specs.Columns.{row_entry, branch_entry, entries, level_of}
+use Rattle.certificate.specs.Columns.{row_entry, branch_entry, entries, charged}
 use Rattle.certificate.specs.Held.{leaf_held}
 use Rattle.certificate.specs.Lines.{Line, case_line, charge, potential}
 use Rattle.certificate.specs.Splits as splits
 use Rattle.certificate.specs.Splits.{path_line, branch_of}
-use Rattle.certificate.proofs.Charges.{charge_is, pairs_at}
+use Rattle.certificate.proofs.Charges.{charge_is}
 
 module _ (es : List task.Edge) where
   table : List Row → List Branch → List Line
@@ -35,24 +35,22 @@ module _ (es : List task.Edge) where
   column_is f column p q (r ∷ rs) ts = λ i. p (row_of r) i ∷ column_is f column p q rs ts i
 
   module _ (l : Leaf) (rows : List Row) (path : List Branch) (from to : ℕ) where
-    -- one part of the level
-    abbrev part_of : Column → ℕ → ℤ
-    part_of column part = level_of (entries column rows path) l.potentials.now l.multipliers.now from to part (length rows + length path)
-
     -- a difference of potentials and a charge
     abbrev level : (Line → ℤ) → Pair
     level f = potential (leaf_held l) from ⊖ potential (leaf_held l) to ⊕ charge f (map (case_line es) (map row_of rows) ++ map path_line (map branch_of path)) (leaf_held l).multipliers
 
-    levels : (f : Line → ℤ) (column : Column) → map f (table rows path) ≡ entries column rows path → level f ≡ (part_of column 0, part_of column 1)
+    -- the same by the sum of the code
+    abbrev by_column : Column → Pair
+    by_column column = potential (leaf_held l) from ⊖ potential (leaf_held l) to ⊕ charged (entries column rows path) (leaf_held l).multipliers (length rows + length path)
+
+    levels : (f : Line → ℤ) (column : Column) → map f (table rows path) ≡ entries column rows path → level f ≡ by_column column
     unfolding table
     levels f column e =
-        let u = pairs_at l.potentials.now from in
-        let v = pairs_at l.potentials.now to in
-        let s = charge_is f (table rows path) (entries column rows path) l.multipliers.now (length rows + length path) e (lines_count rows path) in
-        λ i. u i ⊖ v i ⊕ s i
+        ap (λ s. potential (leaf_held l) from ⊖ potential (leaf_held l) to ⊕ s)
+        (charge_is f (table rows path) (entries column rows path) (leaf_held l).multipliers (length rows + length path) e (lines_count rows path))
 
-    pub limit_levels : level (λ r. r.limit) ≡ (part_of Limit 0, part_of Limit 1)
+    pub limit_levels : level (λ r. r.limit) ≡ by_column Limit
     limit_levels = levels (λ r. r.limit) Limit (column_is (λ r. r.limit) Limit (λ r. refl) (λ t. refl) rows path)
 
-    pub edge_levels : (x b : ℕ) → (edge_at es x).block ≡ b → level (λ r. r.of_edge x) ≡ (part_of (Edge x b) 0, part_of (Edge x b) 1)
+    pub edge_levels : (x b : ℕ) → (edge_at es x).block ≡ b → level (λ r. r.of_edge x) ≡ by_column (Edge x b)
     edge_levels x b h = levels (λ r. r.of_edge x) (Edge x b) (column_is (λ r. r.of_edge x) (Edge x b) (λ r. ap (coefficient r) h) (λ t. refl) rows path)

@@ -8,6 +8,7 @@ pub mod Readers
 pub mod Charges
 pub mod Levels
 pub mod Signs
+pub mod Far
 pub mod Steps
 pub mod Firsts
 pub mod Spellings

@@ -26,6 +26,6 @@ module _ (nodes rows : ℕ) (xs ys : List ℤ) where
   pub after_last : (k : ℕ) (e m : ℤ) → k ≡ 0 → first_record nodes rows xs ≡ Some (split_record e m, ys) → rest_of (read_tree k nodes rows xs) ≡ None
   after_last k e m q h = rw (q, h)
 
-  pub after_split : (k j : ℕ) (e m : ℤ) → k ≡ suc j → first_record nodes rows xs ≡ Some (split_record e m, ys) →
-      rest_of (read_tree k nodes rows xs) ≡ and_then (rest_of (read_tree j nodes (rows + 1) ys)) (λ zs. rest_of (read_tree j nodes (rows + 1) zs))
-  after_split k j e m q h = rw (q, h) (rest_two (read_tree j nodes (rows + 1)) e m (read_tree j nodes (rows + 1) ys))
+  pub after_split : (k j n r : ℕ) (e m : ℤ) → (n ≡ nodes) × (r ≡ rows + 1) × (k ≡ suc j) → first_record nodes rows xs ≡ Some (split_record e m, ys) →
+      rest_of (read_tree k nodes rows xs) ≡ and_then (rest_of (read_tree j n r ys)) (λ zs. rest_of (read_tree j n r zs))
+  after_split k j n r e m (p, q, s) h = rw (p, q, s, h) (rest_two (read_tree j nodes (rows + 1)) e m (read_tree j nodes (rows + 1) ys))

@@ -71,3 +71,9 @@ module _ (n r : ℕ) where
         go (suc k) (leaf d ps ms) f e = never (leaf_record d ps ms, ys) (h ∙ leaf_first d ps ms ys xs f.0 f.1 e)
         go none (split a m s t) f e = f
         go (suc k) (split a m s t) f e = never (split_record a m, (spelled s ++ spelled t) ++ ys) (h ∙ sym (ap (first_record n r) e))
+
+-- the shape under a split
+pub under : (k n r : ℕ) {j m s : ℕ} → (m ≡ n) × (s ≡ r + 1) × (k ≡ suc j) → (t : Tree) → Fits (k - 1) n (r + 1) t → Fits j m s t
+under k n r {j} {m} {s} (p, q, e) t f =
+    let l : k - 1 ≡ j = omega arith in
+    subst (λ (i : ℕ). Fits j m i t) (sym q) (subst (λ (i : ℕ). Fits j i (r + 1) t) (sym p) (subst (λ (i : ℕ). Fits i n (r + 1) t) l f))

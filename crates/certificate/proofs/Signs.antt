@@ -22,6 +22,11 @@ equal_past [] i h = refl
 equal_past (x ∷ rows) none h = absurd (not-suc-le-zero h)
 equal_past (x ∷ rows) (suc i) h = equal_past rows i (le_of_suc-le-suc h)
 
+pub unequal : (x : Relation) → (x ≡ Equal → ⊥) → is_equal x ≡ false
+unequal Below h = refl
+unequal AtMost h = refl
+unequal Equal h = absurd (h refl)
+
 module _ (le : Pair → Pair → Bool) (es : List Edge) (m : Pair) where
   of_relation : (x : Relation) → sign_ok le x m ≡ cond (is_equal x) true (le zero m)
   of_relation Below = refl

@@ -1,5 +1,6 @@
 -- The rows of a leaf as a table with a column for each edge and one for the limits. To compute with.
-use Rattle.std.specs.Prelude.{ℕ, zero, suc, ◌+◌, ◌*◌, List, ◌++◌, map, ℤ, pos, ◌+ℤ◌, ◌-ℤ◌, ◌*ℤ◌, slice_index_or}
+use Rattle.std.specs.Prelude.{ℕ, zero as none, suc, List, ◌++◌, map, ℤ, pos, slice_index_or}
+use Rattle.price.specs.Pairs.{Pair, zero, ◌⊕◌, times}
 use Rattle.task.specs.declared.rows.Row as declared
 use Rattle.task.specs.NewRows.{row_of}
 use Rattle.task.specs.Rows.{Row, coefficient}
@@ -21,11 +22,7 @@ branch_entry Limit t = (path_line t).limit
 abbrev pub entries : Column → List declared.Row → List branches.Branch → List ℤ
 entries column rows path = map (λ r. row_entry column (row_of r)) rows ++ map (λ t. branch_entry column (branch_of t)) path
 
--- one part of the first n entries times their multipliers, added up
-abbrev pub charged : List ℤ → List ℤ → ℕ → ℕ → ℤ
-charged xs ms part zero = pos 0
-charged xs ms part (suc n) = charged xs ms part n +ℤ slice_index_or xs n (pos 0) *ℤ slice_index_or ms (2 * n + part) (pos 0)
-
--- one part of a difference of potentials, and of what the rows charge
-abbrev pub level_of : List ℤ → List ℤ → List ℤ → ℕ → ℕ → ℕ → ℕ → ℤ
-level_of xs ps ms from to part n = slice_index_or ps (2 * from + part) (pos 0) -ℤ slice_index_or ps (2 * to + part) (pos 0) +ℤ charged xs ms part n
+-- the first n entries times their multipliers, added up
+abbrev pub charged : List ℤ → List Pair → ℕ → Pair
+charged xs ms none = zero
+charged xs ms (suc n) = charged xs ms n ⊕ times (slice_index_or xs n (pos 0)) (slice_index_or ms n zero)

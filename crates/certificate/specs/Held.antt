@@ -1,5 +1,5 @@
 -- What the records and lists of the code hold. To compute with.
-use Rattle.std.specs.Prelude.{ℕ, zero, suc, ◌+◌, Bool, true, false, List, [], ◌∷◌, length, ℤ, Some, None, Ok, Err, Option, Result, ◌==◌}
+use Rattle.std.specs.Prelude.{ℕ, zero, suc, ◌+◌, Bool, true, false, List, [], ◌∷◌, map, length, ℤ, Some, None, Ok, Err, Option, Result, ◌==◌}
 use Rattle.std.specs.Borrow.{Bor}
 use Rattle.price.specs.declared.refusals.Refusal.{Refusal}
 use Rattle.task.specs.declared.rows.Relation.{Relation}
@@ -9,7 +9,8 @@ use Rattle.certificate.specs.declared.cases.Leaf.{Leaf}
 use Rattle.certificate.specs.declared.reading.Record.{Record}
 use Rattle.certificate.specs.declared.reading.Record.TheVariants as code
 use Rattle.certificate.specs.Lines as lines
-use Rattle.certificate.specs.Tasks.{Answer}
+use Rattle.certificate.specs.Splits.{lines_at, branch_of}
+use Rattle.certificate.specs.Tasks.{Answer, task_of}
 use Rattle.certificate.specs.Trees.{Tree, TreeRecord, leaf_record, split_record}
 
 abbrev pub held : Record → TreeRecord
@@ -50,6 +51,10 @@ rest_held (Err refusal) = Err refusal
 
 abbrev pub leaf_held : Leaf → lines.Leaf
 leaf_held l = record { scale = l.scale; potentials = lines.pairs l.potentials.now; multipliers = lines.pairs l.multipliers.now }
+
+-- the rows of a leaf of the code
+abbrev pub lines_of : Leaf → List lines.Line
+lines_of l = lines_at (task_of l.claim.task) (map branch_of l.path.now)
 
 -- whether the row of a number wants equality
 abbrev pub is_equal : Relation → Bool

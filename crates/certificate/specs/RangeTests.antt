@@ -1,5 +1,5 @@
 -- The range question: a test beside each number of a tree's list.
-use Rattle.std.specs.Prelude.{ℕ, Bool, true, ◌&&◌, List, [], ◌∷◌, ◌++◌, map, ℤ, pos, int_le, nat_lt, unsigned_abs}
+use Rattle.std.specs.Prelude.{ℕ, Bool, true, not, ◌&&◌, List, [], ◌∷◌, ◌++◌, map, ℤ, pos, int_le, nat_lt, unsigned_abs}
 use Rattle.task.specs.Coefficients.{in_range}
 use Rattle.certificate.specs.Trees.{Tree, leaf, split, TreeRecord, leaf_record, split_record}
 
@@ -13,6 +13,9 @@ exists edges e = int_le (pos 0) e && nat_lt (unsigned_abs e) edges
 -- potentials and multipliers are from -2^26 to 2^26
 abbrev pub near : List ℤ → List Bool
 near xs = map (in_range 67108864) xs
+
+abbrev pub far : ℤ → Bool
+far z = not (in_range 67108864 z)
 
 -- one test for each number of a record, where D is at most `top`; the 0 or 1 in front is always in range
 abbrev pub record_tests : ℕ → ℤ → TreeRecord → List Bool

@@ -1,9 +1,6 @@
--- What the questions before have left of a list and of a leaf. To compute with.
-use Rattle.std.specs.Prelude.{◌≡◌, ℕ, ◌+◌, ◌≤◌, List, ◌++◌, length, ℤ, pos, slice_index_or, unsigned_abs}
+-- What the questions before have left of a list. To compute with.
+use Rattle.std.specs.Prelude.{◌≡◌, ℕ, ◌≤◌, List, ◌++◌, ℤ, pos, slice_index_or, unsigned_abs}
 use Rattle.price.specs.Ranges.{Within}
-use Rattle.certificate.specs.declared.cases.Leaf.{Leaf}
-use Rattle.task.specs.declared.tasks.Task.{Task}
-use Rattle.certificate.specs.declared.branches.Branch.{Branch}
 use Rattle.certificate.specs.Trees.{Tree, leaf, split, spelled, Fits}
 
 -- each number is one that a potential or a multiplier may have
@@ -28,10 +25,3 @@ pub record Judgeable (nodes rows : ℕ) (xs : List ℤ) : Type 0 where
   pub fits : Fits 12 nodes rows of
   pub bounded : Bounded of
   pub is : spelled of ≡ xs
-
--- a leaf that can be judged
-pub record Sized (task : Task) (splits : List Branch) (leaf : Leaf) : Type 0 where
-  pub few : length task.rows.now + length splits ≤ 36
-  pub scale : leaf.scale ≤ 1000
-  pub potentials : Small leaf.potentials.now
-  pub multipliers : Small leaf.multipliers.now

@@ -1,4 +1,9 @@
 // The records of a leaf.
+ghost use Rattle.std.specs.Prelude.{◌≤◌, length};
+ghost use Rattle.certificate.specs.Ready.{Small};
+
+use crate::branches::Branch;
+use crate::claims::Claim;
 
 // A column of the table of a leaf's rows: the coefficients of one edge, or the limits.
 #[derive(Clone, Copy)]
@@ -7,10 +12,17 @@ pub(crate) enum Column {
     Limit,
 }
 
-// The scale of a leaf, and the parts of the list with two numbers for each node and each row.
+// A leaf under the branches of a path: its number in list order, its scale, and the parts of the list with two numbers for each node and each row.
 #[derive(Clone, Copy)]
 pub(crate) struct Leaf<'a> {
+    pub(crate) claim: Claim<'a>,
+    pub(crate) path: &'a [Branch],
+    pub(crate) number: usize,
     pub(crate) scale: u32,
     pub(crate) potentials: &'a [i32],
     pub(crate) multipliers: &'a [i32],
+    ghost few: { length path.now ≤ 12 },
+    ghost scale_fits: { scale ≤ 1000 },
+    ghost potentials_small: { Small potentials.now },
+    ghost multipliers_small: { Small multipliers.now },
 }

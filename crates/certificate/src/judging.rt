@@ -1,79 +1,58 @@
 // A leaf is judged: the signs of its multipliers, its edges, its bound.
-ghost use Rattle.std.specs.Prelude.{◌≡◌, ◌^◌, map};
-ghost use Rattle.certificate.specs.Held.{leaf_held};
-ghost use Rattle.certificate.specs.Ready.{Sized};
-ghost use Rattle.certificate.specs.Splits.{lines_at, branch_of};
+ghost use Rattle.std.specs.Prelude.{◌≡◌};
+ghost use Rattle.certificate.specs.Held.{leaf_held, lines_of};
 ghost use Rattle.certificate.specs.Tasks.{task_of};
 ghost use Rattle.certificate.specs.Verdicts.{edges_answer, leaf_answer, signs_answer};
 ghost use Rattle.price.specs.Prices.{pair};
-ghost use Rattle.price.specs.Ranges.{Both};
 
-use crate::branches::Branch;
 use crate::cases::Leaf;
-use crate::questions::{bound_passes, edge_passes, sign_passes};
-use price::{Price, Refusal, Tariff};
-use task::Task;
+use price::{Refusal, Tariff};
 
-// Asks the rows in rising order, those of the task first; `n` is the number of the leaf.
-fn ask_signs<T: Tariff>(
-    tariff: &T,
-    task: Task<'_>,
-    path: &[Branch],
-    leaf: Leaf<'_>,
-    n: usize,
-) -> Result<(), Refusal>
-    requires { Sized task path.now leaf }
-    ensures { result ≡ signs_answer (T.le tariff.now) (lines_at (task_of task.entry) (map branch_of path.now)) (leaf_held leaf.entry) n }
-{
-    let mut answer = Ok(());
-    'rows: for row in 0..task.rows.len() + path.len() {
-        if !sign_passes(tariff, task, path, leaf, row) {
-            answer = Err(Refusal::MultiplierSign { leaf: n, row });
-            break 'rows;
+impl Leaf<'_> {
+    // Asks the rows in rising order, those of the task first.
+    fn ask_signs<T: Tariff>(&self, tariff: &T) -> Result<(), Refusal>
+        ensures { result ≡ signs_answer (T.le tariff.now) (lines_of self.now) (leaf_held self.now) self.now.number }
+    {
+        let mut answer = Ok(());
+        'rows: for row in 0..self.rows() {
+            if !self.sign_passes(tariff, row) {
+                answer = Err(Refusal::MultiplierSign {
+                    leaf: self.number,
+                    row,
+                });
+                break 'rows;
+            }
         }
+        answer
     }
-    answer
-}
 
-// Asks the edges in rising order.
-fn ask_edges<T: Tariff>(
-    tariff: &T,
-    task: Task<'_>,
-    path: &[Branch],
-    leaf: Leaf<'_>,
-    n: usize,
-) -> Result<(), Refusal>
-    requires { Sized task path.now leaf }
-    ensures { result ≡ edges_answer (T.le tariff.now) (task_of task.entry) (lines_at (task_of task.entry) (map branch_of path.now)) (leaf_held leaf.entry) n }
-{
-    let mut answer = Ok(());
-    'edges: for edge in 0..task.edges.len() {
-        if !edge_passes(tariff, task, path, leaf, edge) {
-            answer = Err(Refusal::AllowanceShort { leaf: n, edge });
-            break 'edges;
+    // Asks the edges in rising order.
+    fn ask_edges<T: Tariff>(&self, tariff: &T) -> Result<(), Refusal>
+        ensures { result ≡ edges_answer (T.le tariff.now) (task_of self.now.claim.task) (lines_of self.now) (leaf_held self.now) self.now.number }
+    {
+        let mut answer = Ok(());
+        'edges: for edge in 0..self.claim.task.edges.len() {
+            if !self.edge_passes(tariff, edge) {
+                answer = Err(Refusal::AllowanceShort {
+                    leaf: self.number,
+                    edge,
+                });
+                break 'edges;
+            }
         }
+        answer
     }
-    answer
-}
 
-// The first question of leaf `n` that fails.
-pub(crate) fn judge_leaf<T: Tariff>(
-    tariff: &T,
-    task: Task<'_>,
-    claimed: Price,
-    path: &[Branch],
-    leaf: Leaf<'_>,
-    n: usize,
-) -> Result<(), Refusal>
-    requires sized { Sized task path.now leaf }
-    requires small { Both (2 ^ 42) (pair claimed) }
-    ensures { result ≡ leaf_answer (T.le tariff.now) (T.unit tariff.now) (task_of task.entry) (pair claimed) (lines_at (task_of task.entry) (map branch_of path.now)) (leaf_held leaf.entry) n }
-{
-    ask_signs(tariff, task, path, leaf, n)?;
-    ask_edges(tariff, task, path, leaf, n)?;
-    if bound_passes(tariff, task, claimed, path, leaf) {
-        Ok(())
-    } else {
-        Err(Refusal::BoundTooHigh { leaf: n })
+    // The first question of the leaf that fails.
+    pub(crate) fn judge<T: Tariff>(&self, tariff: &T) -> Result<(), Refusal>
+        ensures { result ≡ leaf_answer (T.le tariff.now) (T.unit tariff.now) (task_of self.now.claim.task) (pair self.now.claim.price) (lines_of self.now) (leaf_held self.now) self.now.number }
+    {
+        self.ask_signs(tariff)?;
+        self.ask_edges(tariff)?;
+        if self.bound_passes(tariff) {
+            Ok(())
+        } else {
+            Err(Refusal::BoundTooHigh { leaf: self.number })
+        }
     }
 }

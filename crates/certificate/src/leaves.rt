@@ -1,71 +1,47 @@
 // What an edge and a whole run may cost at a leaf.
-ghost use Rattle.std.specs.Prelude.{◌≡◌, ◌+◌, ◌<◌, ◌≤◌, map, length};
-ghost use Rattle.certificate.specs.Columns.{entries, level_of};
-ghost use Rattle.certificate.specs.Held.{leaf_held};
-ghost use Rattle.certificate.specs.Lines.{allowance as allowance', bound as bound'};
-ghost use Rattle.certificate.specs.Ready.{Sized};
-ghost use Rattle.certificate.specs.Splits.{lines_at, branch_of};
-ghost use Rattle.certificate.specs.Tasks.{task_of};
+ghost use Rattle.std.specs.Prelude.{◌≡◌, ◌+◌, ◌<◌, length};
+ghost use Rattle.certificate.specs.Columns.{charged, entries};
+ghost use Rattle.certificate.specs.Held.{leaf_held, lines_of};
+ghost use Rattle.certificate.specs.Lines.{allowance as allowance', bound as bound', potential};
+ghost use Rattle.price.specs.Pairs.{◌⊕◌, ◌⊖◌};
 ghost use Rattle.price.specs.Prices.{pair};
-ghost use Rattle.price.specs.Ranges.{Part};
 ghost use Rattle.task.specs.Graph.{edge_at};
 
-use crate::branches::Branch;
 use crate::cases::{Column, Leaf};
 use crate::prices::price_of;
-use crate::sums::{charge, number};
 use price::Price;
-use task::Task;
 
-const CYCLES: usize = 0;
+impl Leaf<'_> {
+    // A difference of potentials, and what the rows charge.
+    fn level(&self, from: u8, to: u8, column: Column) -> Price
+        ensures { pair result ≡ potential (leaf_held self.now) from ⊖ potential (leaf_held self.now) to ⊕ charged (entries column self.now.claim.task.rows.now self.now.path.now) (leaf_held self.now).multipliers (length self.now.claim.task.rows.now + length self.now.path.now) }
+    {
+        let before = self.potential(from);
+        let after = self.potential(to);
+        let charge = self.charge(column);
+        price_of(
+            before.cycles() - after.cycles() + charge.cycles(),
+            before.reads() - after.reads() + charge.reads(),
+        )
+    }
 
-const READS: usize = 1;
+    // What an edge may cost.
+    pub(crate) fn allowance(&self, i: usize) -> Price
+        requires { i < length self.now.claim.task.edges.now }
+        ensures { pair result ≡ allowance' (lines_of self.now) (leaf_held self.now) i (edge_at self.now.claim.task.edges.now i) }
+    {
+        let edge = self.claim.task.edges[i];
+        let column = Column::Edge {
+            number: i,
+            block: edge.block,
+        };
+        self.level(edge.tail, edge.head, column)
+    }
 
-// One part of a difference of potentials and of what the rows charge.
-fn level(
-    task: Task<'_>,
-    path: &[Branch],
-    leaf: Leaf<'_>,
-    from: u8,
-    to: u8,
-    column: Column,
-    part: usize,
-) -> i64
-    requires sized { Sized task path.now leaf }
-    requires part { part ≤ 1 }
-    ensures value { result ≡ level_of (entries column task.entry.rows.now path.now) leaf.entry.potentials.now leaf.entry.multipliers.now from to part (length task.entry.rows.now + length path.now) }
-    ensures small { Part result }
-{
-    let before = i64::from(number(leaf.potentials, 2 * from as usize + part));
-    let after = i64::from(number(leaf.potentials, 2 * to as usize + part));
-    before - after + charge(column, task.rows, path, leaf.multipliers, part)
-}
-
-// What an edge may cost.
-pub(crate) fn allowance(task: Task<'_>, path: &[Branch], leaf: Leaf<'_>, i: usize) -> Price
-    requires sized { Sized task path.now leaf }
-    requires known { i < length task.edges.now }
-    ensures { pair result ≡ allowance' (lines_at (task_of task.entry) (map branch_of path.now)) (leaf_held leaf.entry) i (edge_at task.entry.edges.now i) }
-{
-    let edge = task.edges[i];
-    let column = Column::Edge {
-        number: i,
-        block: edge.block,
-    };
-    price_of(
-        level(task, path, leaf, edge.tail, edge.head, column, CYCLES),
-        level(task, path, leaf, edge.tail, edge.head, column, READS),
-    )
-}
-
-// What a whole run may cost.
-pub(crate) fn bound(task: Task<'_>, path: &[Branch], leaf: Leaf<'_>) -> Price
-    requires { Sized task path.now leaf }
-    ensures { pair result ≡ bound' task.entry.start task.entry.end (lines_at (task_of task.entry) (map branch_of path.now)) (leaf_held leaf.entry) }
-{
-    let (start, end) = (task.start, task.end);
-    price_of(
-        level(task, path, leaf, start, end, Column::Limit, CYCLES),
-        level(task, path, leaf, start, end, Column::Limit, READS),
-    )
+    // What a whole run may cost.
+    pub(crate) fn bound(&self) -> Price
+        ensures { pair result ≡ bound' self.now.claim.task.start self.now.claim.task.end (lines_of self.now) (leaf_held self.now) }
+    {
+        self.level(self.claim.task.start, self.claim.task.end, Column::Limit)
+    }
 }

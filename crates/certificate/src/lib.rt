@@ -3,6 +3,7 @@
 
 mod branches;
 mod cases;
+mod claims;
 mod judging;
 mod leaves;
 mod paths;

@@ -1,92 +1,56 @@
 // The questions of a leaf, each asked of the tariff.
-ghost use Rattle.std.specs.Prelude.{◌≡◌, ◌+◌, ◌^◌, ◌<◌, map, length, slice_index_or};
-ghost use Rattle.certificate.specs.Held.{equal_at, leaf_held};
+ghost use Rattle.std.specs.Prelude.{◌≡◌, ◌+◌, ◌<◌, length, slice_index_or};
+ghost use Rattle.certificate.specs.Held.{equal_at, leaf_held, lines_of};
 ghost use Rattle.certificate.specs.LeafTests.{bound_ok, edge_ok, row_ok};
 ghost use Rattle.certificate.specs.Lines.{no_line};
-ghost use Rattle.certificate.specs.Ready.{Sized};
-ghost use Rattle.certificate.specs.Splits.{lines_at, branch_of};
 ghost use Rattle.certificate.specs.Tasks.{task_of};
-ghost use Rattle.price.specs.Pairs.{times};
 ghost use Rattle.price.specs.Prices.{pair};
-ghost use Rattle.price.specs.Ranges.{Both};
 ghost use Rattle.task.specs.Graph.{edge_at};
 
-use crate::branches::Branch;
 use crate::cases::Leaf;
-use crate::leaves::{allowance, bound};
-use crate::prices::{multiple, price_of, scaled_price};
-use crate::sums::number;
-use price::{Price, Tariff};
-use task::{Relation, Task};
+use crate::prices::price_of;
+use price::Tariff;
+use task::{Relation, Row};
 
-// Whether the row wants its sum to be equal to its limit; a row of the path does not.
-fn wants_equality(task: Task<'_>, i: usize) -> bool
-    ensures { result ≡ equal_at task.entry.rows.now i }
+// Whether the row of this number wants its sum to be equal to its limit; past those of the task, a row of the path does not.
+fn wants_equality(rows: &[Row], i: usize) -> bool
+    ensures { result ≡ equal_at rows.now i }
 {
-    if i < task.rows.len() {
-        let row = &task.rows[i];
-        match row.relation {
-            Relation::Equal => true,
-            Relation::Below | Relation::AtMost => false,
-        }
-    } else {
-        false
+    match rows.get(i) {
+        Some(row) => matches!(row.relation, Relation::Equal),
+        None => false,
     }
 }
 
-// Whether (0, 0) is no dearer than the multiplier of the row, unless it wants equality.
-pub(crate) fn sign_passes<T: Tariff>(
-    tariff: &T,
-    task: Task<'_>,
-    path: &[Branch],
-    leaf: Leaf<'_>,
-    i: usize,
-) -> bool
-    requires sized { Sized task path.now leaf }
-    requires known { i < length task.rows.now + length path.now }
-    ensures { result ≡ row_ok (T.le tariff.now) (leaf_held leaf.entry) i (slice_index_or (lines_at (task_of task.entry) (map branch_of path.now)) i no_line) }
-{
-    if wants_equality(task, i) {
-        return true;
+impl Leaf<'_> {
+    // Whether (0, 0) is no dearer than the multiplier of the row, unless it wants equality.
+    pub(crate) fn sign_passes<T: Tariff>(&self, tariff: &T, row: usize) -> bool
+        requires { row < length self.now.claim.task.rows.now + length self.now.path.now }
+        ensures { result ≡ row_ok (T.le tariff.now) (leaf_held self.now) row (slice_index_or (lines_of self.now) row no_line) }
+    {
+        wants_equality(self.claim.task.rows, row)
+            || tariff.compare(price_of(0, 0), self.multiplier(row))
     }
-    let cycles = i64::from(number(leaf.multipliers, 2 * i));
-    let reads = i64::from(number(leaf.multipliers, 2 * i + 1));
-    tariff.compare(price_of(0, 0), price_of(cycles, reads))
-}
 
-// Whether D times the edge's price is no dearer than its allowance.
-pub(crate) fn edge_passes<T: Tariff>(
-    tariff: &T,
-    task: Task<'_>,
-    path: &[Branch],
-    leaf: Leaf<'_>,
-    i: usize,
-) -> bool
-    requires sized { Sized task path.now leaf }
-    requires known { i < length task.edges.now }
-    ensures { result ≡ edge_ok (T.le tariff.now) (lines_at (task_of task.entry) (map branch_of path.now)) (leaf_held leaf.entry) i (edge_at task.entry.edges.now i) }
-{
-    let price = scaled_price(leaf.scale, &task.edges[i]);
-    tariff.compare(price, allowance(task, path, leaf, i))
-}
+    // Whether D times the edge's price is no dearer than its allowance.
+    pub(crate) fn edge_passes<T: Tariff>(&self, tariff: &T, i: usize) -> bool
+        requires { i < length self.now.claim.task.edges.now }
+        ensures { result ≡ edge_ok (T.le tariff.now) (lines_of self.now) (leaf_held self.now) i (edge_at self.now.claim.task.edges.now i) }
+    {
+        let price = self.scaled_price(&self.claim.task.edges[i]);
+        tariff.compare(price, self.allowance(i))
+    }
 
-// Whether the bound is cheaper than D times one unit more than the claimed price.
-pub(crate) fn bound_passes<T: Tariff>(
-    tariff: &T,
-    task: Task<'_>,
-    claimed: Price,
-    path: &[Branch],
-    leaf: Leaf<'_>,
-) -> bool
-    requires sized { Sized task path.now leaf }
-    requires small { Both (2 ^ 42) (pair claimed) }
-    ensures { result ≡ bound_ok (T.le tariff.now) (T.unit tariff.now) (task_of task.entry) (pair claimed) (lines_at (task_of task.entry) (map branch_of path.now)) (leaf_held leaf.entry) }
-{
-    let step = tariff.unit();
-    let past = multiple(
-        leaf.scale,
-        claimed.cycles() + step.cycles(),
-        claimed.reads() + step.reads(),
-    );
-    !tariff.compare(past, bound(task, path, leaf))
+    // Whether the bound is cheaper than D times one unit more than the claimed price.
+    pub(crate) fn bound_passes<T: Tariff>(&self, tariff: &T) -> bool
+        ensures { result ≡ bound_ok (T.le tariff.now) (T.unit tariff.now) (task_of self.now.claim.task) (pair self.now.claim.price) (lines_of self.now) (leaf_held self.now) }
+    {
+        let claimed = self.claim.price;
+        let step = tariff.unit();
+        let past = self.multiple(
+            claimed.cycles() + step.cycles(),
+            claimed.reads() + step.reads(),
+        );
+        !tariff.compare(past, self.bound())
+    }
 }

@@ -1,12 +1,14 @@
 // Are the numbers of a tree in range?
-ghost use Rattle.std.specs.Prelude.{◌≡◌, ◌+◌, ◌-◌, ◌^◌, ◌<◌, ◌≤◌, List, ◌++◌, length, ℤ, pos};
+ghost use Rattle.std.specs.Prelude.{◌≡◌, ◌+◌, ◌-◌, ◌^◌, ◌<◌, ◌≤◌, List, ◌++◌, length, position, ℤ, pos};
 ghost use Rattle.certificate.specs.Held.{behind, held, long, rest_held};
-ghost use Rattle.certificate.specs.RangeTests.{exists, inside, near, record_tests, tests};
+ghost use Rattle.certificate.specs.RangeTests.{exists, far, inside, near, record_tests, tests};
 ghost use Rattle.certificate.specs.Ready.{Front};
 ghost use Rattle.certificate.specs.Trees.{Fits, Tree, leaf_record, spelled, split_record};
 ghost use Rattle.certificate.specs.Verdicts.{range_answer};
+ghost use Rattle.task.specs.Coefficients.{in_range};
 
 use crate::reading::{Record, read_record};
+use crate::shapes::Shape;
 use price::Refusal;
 
 // The largest potential and multiplier, 2^26; the smallest is its negative.
@@ -14,17 +16,40 @@ const MAX_NUMBER: i32 = 67_108_864;
 
 const MAX_MOST: i32 = 1_048_575;
 
-fn is_inside(low: i32, high: i32, z: i32) -> bool
-    ensures { result ≡ inside low high z }
-{
-    low <= z && z <= high
+// What a tree is asked for: one of so many edges, and a D of at most `top`; its list has `whole` numbers.
+#[derive(Clone, Copy)]
+pub(crate) struct Limits {
+    pub(crate) whole: usize,
+    pub(crate) edges: usize,
+    pub(crate) top: i32,
+    ghost counted: { whole < 2 ^ 63 },
 }
 
 // Is there an edge of this number?
 fn is_edge(edges: usize, e: i32) -> bool
     ensures { result ≡ exists edges e }
 {
-    0 <= e && (e.unsigned_abs() as usize) < edges
+    usize::try_from(e).is_ok_and(|e| e < edges)
+}
+
+// Can a potential or a multiplier be this number?
+fn is_near(z: i32) -> bool
+    ensures { result ≡ in_range 67108864 z }
+{
+    (-MAX_NUMBER..=MAX_NUMBER).contains(&z)
+}
+
+// Can D be this number?
+fn is_scale(top: i32, z: i32) -> bool
+    ensures { result ≡ inside (pos 0) top z }
+{
+    (0..=top).contains(&z)
+}
+
+fn first_far(list: &[i32]) -> Option<usize>
+    ensures { result ≡ position far list.now }
+{
+    list.iter().position(|z| !is_near(*z))
 }
 
 // Asks the potentials or the multipliers of a leaf, which stand from `place` on.
@@ -32,12 +57,10 @@ fn ask_numbers(list: &[i32], place: usize) -> Result<(), Refusal>
     requires { place + length list.now < 2 ^ 63 }
     ensures { result ≡ range_answer place (near list.now) }
 {
-    for i in 0..list.len() {
-        if !is_inside(-MAX_NUMBER, MAX_NUMBER, list[i]) {
-            return Err(Refusal::TreeRange { place: place + i });
-        }
+    match first_far(list) {
+        Some(i) => Err(Refusal::TreeRange { place: place + i }),
+        None => Ok(()),
     }
-    Ok(())
 }
 
 // Asks a leaf that begins at `place`; D is at most `top`.
@@ -51,7 +74,7 @@ fn ask_leaf(
     requires { place + (2 + (length potentials.now + length multipliers.now)) < 2 ^ 63 }
     ensures { result ≡ range_answer place (record_tests 0 top (leaf_record scale potentials.now multipliers.now)) }
 {
-    if !is_inside(0, top, scale) {
+    if !is_scale(top, scale) {
         return Err(Refusal::TreeRange { place: place + 1 });
     }
     ask_numbers(potentials, place + 2)?;
@@ -66,54 +89,49 @@ fn ask_split(place: usize, edges: usize, edge: i32, most: i32) -> Result<(), Ref
     if !is_edge(edges, edge) {
         return Err(Refusal::TreeRange { place: place + 1 });
     }
-    if !is_inside(0, MAX_MOST, most) {
+    if !(0..=MAX_MOST).contains(&most) {
         return Err(Refusal::TreeRange { place: place + 2 });
     }
     Ok(())
 }
 
 // Asks a record that begins at `place`.
-fn ask_record(read: Record<'_>, place: usize, edges: usize, top: i32) -> Result<(), Refusal>
+fn ask_record(read: Record<'_>, place: usize, limits: Limits) -> Result<(), Refusal>
     requires { place + long (held read) < 2 ^ 63 }
-    ensures { result ≡ range_answer place (record_tests edges top (held read.entry)) }
+    ensures { result ≡ range_answer place (record_tests limits.edges limits.top (held read.entry)) }
 {
     match read {
         Record::Leaf {
             scale,
             potentials,
             multipliers,
-        } => ask_leaf(place, top, scale, potentials, multipliers),
-        Record::Split { edge, most } => ask_split(place, edges, edge, most),
+        } => ask_leaf(place, limits.top, scale, potentials, multipliers),
+        Record::Split { edge, most } => ask_split(place, limits.edges, edge, most),
     }
 }
 
-// Asks the tree at the front of what is left of `whole` numbers, and answers the list behind it.
+// Asks the tree at the front of what is left of the whole list, and answers the list behind it.
 pub(crate) fn ask_ranges<'a>(
     list: &'a [i32],
-    whole: usize,
-    edges: usize,
-    top: i32,
-    nodes: usize,
-    rows: usize,
-    splits: usize,
+    limits: Limits,
+    shape: Shape,
 ) -> Result<&'a [i32], Refusal>
-    requires few { (nodes ≤ 256) × (rows + splits ≤ 36) }
-    requires place { (length list.now ≤ whole) × (whole < 2 ^ 63) }
-    requires spelled { Front splits nodes rows list.now }
-    ensures { (t : Tree) (ys : List ℤ) → Fits splits nodes rows t → spelled t ++ ys ≡ list.now → rest_held result ≡ behind (range_answer (whole - length list.now) (tests edges top t)) ys }
+    requires place { length list.now ≤ limits.whole }
+    requires spelled { Front shape.splits shape.nodes shape.rows list.now }
+    ensures { (t : Tree) (ys : List ℤ) → Fits shape.splits shape.nodes shape.rows t → spelled t ++ ys ≡ list.now → rest_held result ≡ behind (range_answer (limits.whole - length list.now) (tests limits.edges limits.top t)) ys }
 {
-    let Some((record, rest)) = read_record(list, nodes, rows) else {
+    let Some((record, rest)) = read_record(list, shape) else {
         return Ok(list);
     };
-    ask_record(record, whole - list.len(), edges, top)?;
+    ask_record(record, limits.whole - list.len(), limits)?;
     match record {
         Record::Leaf { .. } => Ok(rest),
         Record::Split { .. } => {
-            if splits == 0 {
+            let Some(under) = shape.under_split() else {
                 return Ok(rest);
-            }
-            let second = ask_ranges(rest, whole, edges, top, nodes, rows + 1, splits - 1)?;
-            ask_ranges(second, whole, edges, top, nodes, rows + 1, splits - 1)
+            };
+            let second = ask_ranges(rest, limits, under)?;
+            ask_ranges(second, limits, under)
         }
     }
 }

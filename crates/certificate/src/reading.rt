@@ -1,7 +1,9 @@
 // A backing tree as a list of numbers, read record by record.
-ghost use Rattle.std.specs.Prelude.{◌≡◌, ◌≤◌};
+ghost use Rattle.std.specs.Prelude.{◌≡◌};
 ghost use Rattle.certificate.specs.Held.{record_held};
 ghost use Rattle.certificate.specs.Reading.{first_record, leaf_after, split_after};
+
+use crate::shapes::Shape;
 
 // What a tree begins with; the lists are parts of the list that was read.
 #[derive(Clone, Copy)]
@@ -18,15 +20,14 @@ pub(crate) enum Record<'a> {
 }
 
 // A leaf after its 0, and the list after it.
-fn read_leaf<'a>(list: &'a [i32], nodes: usize, rows: usize) -> Option<(Record<'a>, &'a [i32])>
-    requires { (nodes ≤ 256) × (rows ≤ 36) }
-    ensures { record_held result ≡ leaf_after nodes rows list.now }
+fn read_leaf<'a>(list: &'a [i32], shape: Shape) -> Option<(Record<'a>, &'a [i32])>
+    ensures { record_held result ≡ leaf_after shape.nodes shape.rows list.now }
 {
     let [scale, rest @ ..] = list else {
         return None;
     };
-    let middle = 2 * nodes;
-    let end = middle + 2 * rows;
+    let middle = 2 * shape.nodes;
+    let end = middle + 2 * shape.rows;
     if rest.len() < end {
         return None;
     }
@@ -59,19 +60,14 @@ fn read_split<'a>(list: &'a [i32]) -> Option<(Record<'a>, &'a [i32])>
 }
 
 // The record that the list begins with, and the list after it.
-pub(crate) fn read_record<'a>(
-    list: &'a [i32],
-    nodes: usize,
-    rows: usize,
-) -> Option<(Record<'a>, &'a [i32])>
-    requires { (nodes ≤ 256) × (rows ≤ 36) }
-    ensures { record_held result ≡ first_record nodes rows list.now }
+pub(crate) fn read_record<'a>(list: &'a [i32], shape: Shape) -> Option<(Record<'a>, &'a [i32])>
+    ensures { record_held result ≡ first_record shape.nodes shape.rows list.now }
 {
     let [tag, rest @ ..] = list else {
         return None;
     };
     match *tag {
-        0 => read_leaf(rest, nodes, rows),
+        0 => read_leaf(rest, shape),
         1 => read_split(rest),
         _ => None,
     }

@@ -1,20 +1,37 @@
-// What the rows charge: an entry of each row times its multiplier, added up.
-ghost use Rattle.std.specs.Prelude.{◌≡◌, ◌+◌, ◌*◌, ◌<◌, ◌≤◌, length, pos, ◌*ℤ◌, slice_index_or};
+// What the rows of a leaf charge: an entry of each times its multiplier, added up.
+ghost use Rattle.std.specs.Prelude.{◌≡◌, ◌+◌, ◌*◌, ◌^◌, ◌<◌, length, pos, ◌*ℤ◌, slice_index_or};
 ghost use Rattle.certificate.specs.Columns.{charged, entries, row_entry, branch_entry};
+ghost use Rattle.certificate.specs.Held.{leaf_held};
+ghost use Rattle.certificate.specs.Lines.{multiplier, pairs, potential};
 ghost use Rattle.certificate.specs.Ready.{Small};
 ghost use Rattle.certificate.specs.Splits.{branch_of};
-ghost use Rattle.price.specs.Ranges.{Within};
+ghost use Rattle.price.specs.Pairs.{zero};
+ghost use Rattle.price.specs.Prices.{pair};
+ghost use Rattle.price.specs.Ranges.{Both, Within};
 ghost use Rattle.task.specs.NewRows.{row_of};
 
 use crate::branches::Branch;
-use crate::cases::Column;
+use crate::cases::{Column, Leaf};
+use crate::prices::price_of;
+use price::Price;
 use task::{Relation, Row};
 
 // The number at a place, and 0 past the end.
-pub(crate) fn number(list: &[i32], place: usize) -> i32
+fn number(list: &[i32], place: usize) -> i32
     ensures { result ≡ slice_index_or list.now place (pos 0) }
 {
-    if place < list.len() { list[place] } else { 0 }
+    list.get(place).copied().unwrap_or(0)
+}
+
+// The pair of this number in a list of pairs, and (0, 0) past the end.
+fn pair_at(list: &[i32], i: usize) -> Price
+    requires { i < 2 ^ 32 }
+    ensures value { pair result ≡ slice_index_or (pairs list.now) i zero }
+    ensures small { Small list.now → Both 67108864 (pair result) }
+{
+    let first = number(list, 2 * i);
+    let second = number(list, 2 * i + 1);
+    price_of(i64::from(first), i64::from(second))
 }
 
 // The entry of a row of the task.
@@ -23,7 +40,7 @@ fn row_entry(row: &Row, column: Column) -> i32
     ensures small { Within 1048577 result }
 {
     match column {
-        Column::Edge { block, .. } => number(&row.coefficients, block as usize),
+        Column::Edge { block, .. } => number(&row.coefficients, usize::from(block)),
         Column::Limit => match row.relation {
             Relation::Below => row.k - 1,
             Relation::AtMost | Relation::Equal => row.k,
@@ -58,48 +75,64 @@ impl Branch {
     }
 }
 
-// The entry of a row: those of the task come first, then those of the path.
-fn entry(column: Column, rows: &[Row], path: &[Branch], i: usize) -> i32
-    requires { i < length rows.now + length path.now }
-    ensures value { result ≡ slice_index_or (entries column rows.now path.now) i (pos 0) }
-    ensures small { Within 1048577 result }
-{
-    if i < rows.len() {
-        row_entry(&rows[i], column)
-    } else {
-        path[i - rows.len()].entry(column)
-    }
-}
-
 // An entry times a part of its multiplier.
-fn product(entry: i32, part: i32) -> i64
+fn product(entry: i32, part: i64) -> i64
     requires { (Within 1048577 entry) × (Within 67108864 part) }
     ensures value { result ≡ entry *ℤ part }
     ensures small { Within 70368811286528 result }
 {
-    i64::from(entry) * i64::from(part)
+    i64::from(entry) * part
 }
 
-// One part of what all rows charge in a column; `part` is 0 for cycles and 1 for reads.
-pub(crate) fn charge(
-    column: Column,
-    rows: &[Row],
-    path: &[Branch],
-    multipliers: &[i32],
-    part: usize,
-) -> i64
-    requires few { length rows.now + length path.now ≤ 36 }
-    requires part { part ≤ 1 }
-    requires small { Small multipliers.now }
-    ensures value { result ≡ charged (entries column rows.now path.now) multipliers.now part (length rows.now + length path.now) }
-    ensures small { Within (70368811286528 * 36) result }
-{
-    let mut sum: i64 = 0;
-    for i in 0..rows.len() + path.len() {
-        sum += product(
-            entry(column, rows, path, i),
-            number(multipliers, 2 * i + part),
-        );
+impl Leaf<'_> {
+    pub(crate) fn potential(&self, node: u8) -> Price
+        ensures value { pair result ≡ potential (leaf_held self.now) node }
+        ensures small { Both 67108864 (pair result) }
+    {
+        pair_at(self.potentials, usize::from(node))
     }
-    sum
+
+    pub(crate) fn multiplier(&self, row: usize) -> Price
+        requires { row < 2 ^ 32 }
+        ensures value { pair result ≡ multiplier (leaf_held self.now) row }
+        ensures small { Both 67108864 (pair result) }
+    {
+        pair_at(self.multipliers, row)
+    }
+
+    // How many rows there are: those of the task come first, then those of the path.
+    pub(crate) fn rows(&self) -> usize
+        ensures { result ≡ length self.now.claim.task.rows.now + length self.now.path.now }
+    {
+        self.claim.task.rows.len() + self.path.len()
+    }
+
+    fn entry(&self, column: Column, row: usize) -> i32
+        requires { row < length self.now.claim.task.rows.now + length self.now.path.now }
+        ensures value { result ≡ slice_index_or (entries column self.now.claim.task.rows.now self.now.path.now) row (pos 0) }
+        ensures small { Within 1048577 result }
+    {
+        let rows = self.claim.task.rows;
+        if row < rows.len() {
+            row_entry(&rows[row], column)
+        } else {
+            self.path[row - rows.len()].entry(column)
+        }
+    }
+
+    // What all rows charge in a column.
+    pub(crate) fn charge(&self, column: Column) -> Price
+        ensures value { pair result ≡ charged (entries column self.now.claim.task.rows.now self.now.path.now) (leaf_held self.now).multipliers (length self.now.claim.task.rows.now + length self.now.path.now) }
+        ensures small { Both (70368811286528 * 36) (pair result) }
+    {
+        let mut cycles: i64 = 0;
+        let mut reads: i64 = 0;
+        for row in 0..self.rows() {
+            let entry = self.entry(column, row);
+            let multiplier = self.multiplier(row);
+            cycles += product(entry, multiplier.cycles());
+            reads += product(entry, multiplier.reads());
+        }
+        price_of(cycles, reads)
+    }
 }

@@ -1,36 +1,32 @@
 // The judge of a whole tree: a loop over its list, with a table of the splits on the path.
-ghost use Rattle.std.specs.Prelude.{◌≡◌, ◌^◌, ◌≤◌, length};
+ghost use Rattle.std.specs.Prelude.{◌≡◌, length};
 ghost use Rattle.certificate.specs.Ready.{Judgeable};
 ghost use Rattle.certificate.specs.Tasks.{task_of};
 ghost use Rattle.certificate.specs.Trees.{Fits, Tree, spelled};
 ghost use Rattle.certificate.specs.Verdicts.{tree_answer};
 ghost use Rattle.price.specs.Prices.{pair};
-ghost use Rattle.price.specs.Ranges.{Both};
+ghost use Rattle.task.specs.Sides.{node_count};
 
 use crate::branches::Path;
 use crate::cases::Leaf;
-use crate::judging::judge_leaf;
+use crate::claims::Claim;
 use crate::reading::{Record, read_record};
-use price::{Price, Refusal, Tariff};
-use task::Task;
+use price::{Refusal, Tariff};
 
 // The first question that fails, leaf by leaf in list order.
 pub(crate) fn judge_list<T: Tariff>(
     tariff: &T,
-    task: Task<'_>,
-    nodes: usize,
-    claimed: Price,
+    claim: Claim<'_>,
     list: &[i32],
 ) -> Result<(), Refusal>
-    requires few { (nodes ≤ 256) × (length task.rows.now ≤ 24) }
-    requires small { Both (2 ^ 42) (pair claimed) }
-    requires spelled { Judgeable nodes (length task.rows.now) list.now }
-    ensures { (t : Tree) → Fits 12 nodes (length task.entry.rows.now) t → spelled t ≡ list.now → result ≡ tree_answer (T.le tariff.now) (T.unit tariff.now) (task_of task.entry) (pair claimed) t }
+    requires { Judgeable (node_count claim.task.edges.now) (length claim.task.rows.now) list.now }
+    ensures { (t : Tree) → Fits 12 (node_count claim.entry.task.edges.now) (length claim.entry.task.rows.now) t → spelled t ≡ list.now → result ≡ tree_answer (T.le tariff.now) (T.unit tariff.now) (task_of claim.entry.task) (pair claim.entry.price) t }
 {
+    let shape = claim.shape();
     let mut path = Path::new();
     let mut rest = list;
     let mut count = 0;
-    while let Some((record, next)) = read_record(rest, nodes, task.rows.len() + path.depth) {
+    while let Some((record, next)) = read_record(rest, shape.under(path.depth)) {
         match record {
             Record::Split { edge, most } => {
                 path.push(edge.unsigned_abs() as usize, most.unsigned_abs());
@@ -41,11 +37,14 @@ pub(crate) fn judge_list<T: Tariff>(
                 multipliers,
             } => {
                 let leaf = Leaf {
+                    claim,
+                    path: path.branches(),
+                    number: count,
                     scale: scale.unsigned_abs(),
                     potentials,
                     multipliers,
                 };
-                judge_leaf(tariff, task, claimed, path.branches(), leaf, count)?;
+                leaf.judge(tariff)?;
                 path.onward();
                 count += 1;
             }

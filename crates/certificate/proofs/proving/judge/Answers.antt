@@ -19,18 +19,18 @@ pub returns-then-not-is_claimable : goal.returns-then-not-is_claimable
 returns-then-not-is_claimable g c =
     let es : leb (length c.args.task.edges.now) 64 ≡ true = le-leb _ _ (omega arith) in
     let rs : leb (length (map row_of c.args.task.rows.now)) 24 ≡ true = le-leb _ _ (omega (arith, length-map c.args.task.rows.now row_of)) in
-    let ps : in_range (2 ^ 42) c.args.claimed.cycles && in_range (2 ^ 42) c.args.claimed.reads ≡ false = sym c.is_claimable.ensures ∙ c.if-not-is_claimable.true in
+    let ps : in_range (2 ^ 42) c.args.price.cycles && in_range (2 ^ 42) c.args.price.reads ≡ false = sym c.is_claimable.ensures ∙ c.if-not-is_claimable.true in
     simp (es, rs, ps)
 
 pub returns : goal.returns
 returns g c =
     let es : leb (length c.args.task.edges.now) 64 ≡ true = le-leb _ _ (omega arith) in
     let rs : leb (length (map row_of c.args.task.rows.now)) 24 ≡ true = le-leb _ _ (omega (arith, length-map c.args.task.rows.now row_of)) in
-    let ps : in_range (2 ^ 42) c.args.claimed.cycles && in_range (2 ^ 42) c.args.claimed.reads ≡ true = sym c.is_claimable.ensures ∙ c.if-not-is_claimable.false in
+    let ps : in_range (2 ^ 42) c.args.price.cycles && in_range (2 ^ 42) c.args.price.reads ≡ true = sym c.is_claimable.ensures ∙ c.if-not-is_claimable.false in
     let le = g.T.Tariff.le c.args.tariff.now in
     let unit = g.T.Tariff.unit c.args.tariff.now in
     let task = task_of c.args.task in
     let u = c.ranges.top in
     let same : to_z w32 (of_z w32 c.args.top) ≡ c.args.top = simp to_z-of_z in
-    let within : task_answer le unit task (pair c.args.claimed) c.args.top c.args.list.now ≡ list_answer le unit task (pair c.args.claimed) c.args.top c.args.list.now = simp (es, rs, ps) in
-    c.judge_tree.ensures ∙ ap (λ z. list_answer le unit task (pair c.args.claimed) z c.args.list.now) same ∙ sym within
+    let within : task_answer le unit task (pair c.args.price) c.args.top c.args.list.now ≡ list_answer le unit task (pair c.args.price) c.args.top c.args.list.now = simp (es, rs, ps) in
+    c.judge_tree.ensures ∙ ap (λ z. list_answer le unit task (pair c.args.price) z c.args.list.now) same ∙ sym within

@@ -1,15 +1,17 @@
-use Rattle.std.proofs.Common.{sym, ap, ◌∙◌, inl, inr}
+use Rattle.std.proofs.Common.{sym, ap, ◌∙◌, arith, ltb-true}
 use Rattle.certificate.specs.Held.{is_equal}
-use Rattle.certificate.proofs.Signs.{equal_is, equal_past}
+use Rattle.certificate.proofs.Signs.{equal_is, equal_past, unequal}
 use Rattle.certificate.proofs.questions.wants_equality.Goals as goal
 
 pub returns-in-Equal : goal.returns-in-Equal
-returns-in-Equal c = sym (equal_is c.args.task.rows.now c.args.i c.index-task-i.result c.if-i-task.true ∙ ap is_equal c.in-Equal.is)
+returns-in-Equal c =
+    let found = c.in-Some.ensures.lookup in
+    sym (equal_is c.args.rows.now c.args.i c.in-Some.row.now (ltb-true _ _ (sym found.0)) ∙ ap (λ r. is_equal r.relation) (sym found.1) ∙ ap is_equal c.in-Equal.is)
 
-pub returns-in-Below : goal.returns-in-Below
-returns-in-Below c =
-    let at = equal_is c.args.task.rows.now c.args.i c.index-task-i.result c.if-i-task.true in
-    elim c.in-Below.is [ inl e ↦ sym (at ∙ ap is_equal e) | inr e ↦ sym (at ∙ ap is_equal e) ]
+pub returns-in_default : goal.returns-in_default
+returns-in_default c =
+    let found = c.in-Some.ensures.lookup in
+    sym (equal_is c.args.rows.now c.args.i c.in-Some.row.now (ltb-true _ _ (sym found.0)) ∙ ap (λ r. is_equal r.relation) (sym found.1) ∙ unequal _ c.in_default.not-Equal)
 
-pub returns-else-i-task : goal.returns-else-i-task
-returns-else-i-task c = sym (equal_past c.args.task.rows.now c.args.i c.if-i-task.false)
+pub returns-in-None : goal.returns-in-None
+returns-in-None c = let past = c.in-None.ensures.lookup in sym (equal_past c.args.rows.now c.args.i (omega (arith, past)))

@@ -13,7 +13,7 @@ returns-in_err-ask_numbers c =
     let q = err_from_is_err_and c.from_residual.result c.from_residual.ensures.1 in
     q.1 ∙ ap Err q.2
     ∙ sym (leaf_range c.args.place (inside (pos 0) c.args.top c.args.scale) c.args.potentials.now c.args.multipliers.now
-    (sym (simp to_z-of_z at c.is_inside.ensures) ∙ c.if-not-is_inside.false)
+    (sym (simp to_z-of_z at c.is_scale.ensures) ∙ c.if-not-is_scale.false)
     ∙ ap (λ a. before a (range_answer (c.args.place + 2 + length c.args.potentials.now) (near c.args.multipliers.now))) (sym c.in_err-ask_numbers.ensures))
 
 pub returns : goal.returns
@@ -22,5 +22,5 @@ returns c =
     let t = c.ranges.top in
     c.ask_numbers-2.ensures
     ∙ sym (leaf_range c.args.place (inside (pos 0) c.args.top c.args.scale) c.args.potentials.now c.args.multipliers.now
-    (sym (simp to_z-of_z at c.is_inside.ensures) ∙ c.if-not-is_inside.false)
+    (sym (simp to_z-of_z at c.is_scale.ensures) ∙ c.if-not-is_scale.false)
     ∙ ap (λ a. before a (range_answer (c.args.place + 2 + length c.args.potentials.now) (near c.args.multipliers.now))) (sym c.in_ok-ask_numbers.ensures))
