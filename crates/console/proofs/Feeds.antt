@@ -1,8 +1,8 @@
 -- The first line, and all lines.
-use Rattle.std.proofs.Common.{◌≡◌, ℕ, ◌+◌, ◌<◌, ◌≤◌, Bool, true, false, cond, eqb, List, [], ◌∷◌, ◌++◌, length, get_or, drop, sym, ap, ◌∙◌, append_assoc, arith}
-use Rattle.std.proofs.lemmas.Bool.{cond-true, cond-false, eq-eqb, ne_eqb}
-use Rattle.std.proofs.lemmas.List.{append-nil, at_drop_more}
-use Rattle.console.specs.Lines.{first_line, after_line, lines_on, lines}
+use Rattle.std.proofs.Common.{◌≡◌, ℕ, suc, ◌+◌, ◌<◌, ◌≤◌, Bool, true, false, not, cond, eqb, ltb, ltb-true, ltb-false, List, [], ◌∷◌, ◌++◌, length, take, drop, Some, None, Option, sym, refl, ap, ◌∙◌, subst, append_assoc, arith}
+use Rattle.std.specs.List.{position, position_or_len}
+use Rattle.std.proofs.lemmas.List.{append-nil, take_all, drop_all}
+use Rattle.console.specs.Lines.{first_line, after_line, FeedAt, lines_on, lines}
 
 -- a text that has any byte is its first line and the lines after it
 lines_by : (line cs : List ℕ) (c : ℕ) (b : Bool) →
@@ -32,16 +32,33 @@ pub after_shorter : (text : List ℕ) → 1 ≤ length text → length (after_li
 after_shorter [] h = absurd (omega arith)
 after_shorter (c ∷ cs) h = let k = after_by c cs (eqb c 10) (after_within cs) in omega arith
 
--- at a place of a text: a feed ends the line, any other byte belongs to it
-pub feed_at : (xs : List ℕ) (i : ℕ) → i < length xs → get_or xs i 0 ≡ 10 → (first_line (drop i xs) ≡ []) × (after_line (drop i xs) ≡ drop (i + 1) xs)
-feed_at xs i h e = (
-  at_drop_more first_line xs i 0 h ∙ cond-true (eqb (get_or xs i 0) 10) _ _ (eq-eqb _ 10 e),
-  at_drop_more after_line xs i 0 h ∙ cond-true (eqb (get_or xs i 0) 10) _ _ (eq-eqb _ 10 e),
+-- where the first feed stands
+
+abbrev is_feed : ℕ → Bool
+is_feed c = eqb c 10
+
+first_by : (c n : ℕ) (cs : List ℕ) (b : Bool) → first_line cs ≡ take n cs → cond b [] (c ∷ first_line cs) ≡ take (cond (not b) (1 + n) 0) (c ∷ cs)
+first_by c n cs true more = refl
+first_by c n cs false more = let same : suc n ≡ 1 + n = omega arith in ap (λ l. c ∷ l) more ∙ ap (λ k. take k (c ∷ cs)) same
+
+first_before : (text : List ℕ) → first_line text ≡ take (position_or_len is_feed text) text
+first_before [] = refl
+first_before (c ∷ cs) = first_by c (position_or_len is_feed cs) cs (eqb c 10) (first_before cs)
+
+rest_by : (c n : ℕ) (cs : List ℕ) (b : Bool) → after_line cs ≡ drop (n + 1) cs → cond b cs (after_line cs) ≡ drop (cond (not b) (1 + n) 0 + 1) (c ∷ cs)
+rest_by c n cs true more = refl
+rest_by c n cs false more = let same : suc (n + 1) ≡ 1 + n + 1 = omega arith in more ∙ ap (λ k. drop k (c ∷ cs)) same
+
+rest_after : (text : List ℕ) → after_line text ≡ drop (position_or_len is_feed text + 1) text
+rest_after [] = refl
+rest_after (c ∷ cs) = rest_by c (position_or_len is_feed cs) cs (eqb c 10) (rest_after cs)
+
+feed_by : (text : List ℕ) (b : Bool) → ltb (position_or_len is_feed text) (length text) ≡ b → FeedAt (cond b (Some (position_or_len is_feed text)) None) text
+feed_by text true e = (ltb-true _ _ e, first_before text, rest_after text)
+feed_by text false e = (
+  first_before text ∙ take_all _ text (ltb-false _ _ e),
+  rest_after text ∙ drop_all _ text (omega (arith, ltb-false _ _ e)),
 )
 
-pub byte_at : (xs : List ℕ) (i : ℕ) → i < length xs → (get_or xs i 0 ≡ 10 → ⊥) →
-    (first_line (drop i xs) ≡ get_or xs i 0 ∷ first_line (drop (i + 1) xs)) × (after_line (drop i xs) ≡ after_line (drop (i + 1) xs))
-byte_at xs i h e = (
-  at_drop_more first_line xs i 0 h ∙ cond-false (eqb (get_or xs i 0) 10) _ _ (ne_eqb _ 10 e),
-  at_drop_more after_line xs i 0 h ∙ cond-false (eqb (get_or xs i 0) 10) _ _ (ne_eqb _ 10 e),
-)
+pub feed_position : (text : List ℕ) (r : Option ℕ) → r ≡ position is_feed text → FeedAt r text
+feed_position text r e = subst (λ o. FeedAt o text) (sym e) (feed_by text (ltb (position_or_len is_feed text) (length text)) refl)

@@ -1,4 +1,3 @@
-pub mod Writing
 pub mod Rendering
 pub mod Lines
 pub mod Judging

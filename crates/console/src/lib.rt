@@ -2,10 +2,8 @@
 #![tactic(auto)]
 
 mod answers;
-mod decimals;
 mod replies;
 mod sessions;
-mod texts;
 
 pub use replies::line;
 pub use sessions::session;

@@ -4,39 +4,23 @@ ghost use Rattle.console.specs.Judging.{Judged, Replied};
 ghost use Rattle.judge.specs.Answers.{said};
 ghost use Rattle.judge.specs.Cases.{contents};
 
-use crate::answers::put_answer;
-use grammar::read;
+use crate::answers::{MAX_REPLY, Reply};
+use grammar::{Tables, read};
 use judge::{Answer, Case, perform};
 use price::{CyclesFirst, Refusal};
 
-// Has the case do what the line asks. The tables are room for the numbers of the line.
-fn judge_line(
+// Has the case do what the line asks.
+pub(crate) fn judge_line(
     text: &[u8],
     case: &mut Case,
-    turns: &mut [u32; 512],
-    table: &mut [i32; 512],
+    tables: &mut Tables,
 ) -> Result<Answer, Refusal>
     ensures { Judged (contents case.old) text.now (said result) (contents case.new) }
 {
-    match read(text, turns, table) {
+    match read(text, tables) {
         Some(call) => perform(case, &CyclesFirst, &call),
         None => Err(Refusal::LineForm),
     }
-}
-
-// Writes the reply of the line at the front of the buffer, and answers its length.
-pub(crate) fn put_reply(
-    text: &[u8],
-    case: &mut Case,
-    turns: &mut [u32; 512],
-    table: &mut [i32; 512],
-    reply: &mut [u8],
-) -> usize
-    requires { 64 ≤ length reply.old }
-    ensures { Replied (contents case.old) text.now (contents case.new) reply.old reply.new (Ok result) }
-{
-    let answer = judge_line(text, case, turns, table);
-    put_answer(reply, answer)
 }
 
 /// Has the case do what the line asks, judged cycles first, writes the reply at the front of the buffer, and answers its length.
@@ -45,10 +29,11 @@ pub fn line(text: &[u8], case: &mut Case, reply: &mut [u8]) -> Result<usize, Ref
     ensures refused { length reply.old < 64 → (result ≡ Err Refusal.ReplyRoom) × (reply.new ≡ reply.old) × (contents case.new ≡ contents case.old) }
     ensures replied { 64 ≤ length reply.old → Replied (contents case.old) text.now (contents case.new) reply.old reply.new result }
 {
-    if reply.len() < 64 {
+    if reply.len() < MAX_REPLY {
         return Err(Refusal::ReplyRoom);
     }
-    let mut turns = [0; 512];
-    let mut table = [0; 512];
-    Ok(put_reply(text, case, &mut turns, &mut table, reply))
+    let told = Reply::of(judge_line(text, case, &mut Tables::new()));
+    let bytes = told.as_bytes();
+    reply[..bytes.len()].copy_from_slice(bytes);
+    Ok(bytes.len())
 }

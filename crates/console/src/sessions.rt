@@ -4,7 +4,9 @@ ghost use Rattle.console.specs.Judging.{Pushed, Replies, Stopped};
 ghost use Rattle.console.specs.Lines.{first_line, after_line, FeedAt, lines};
 ghost use Rattle.judge.specs.Cases.{contents};
 
-use crate::replies::put_reply;
+use crate::answers::Reply;
+use crate::replies::judge_line;
+use grammar::Tables;
 use judge::Case;
 use std::alloc::{AllocError, Global};
 
@@ -12,12 +14,7 @@ use std::alloc::{AllocError, Global};
 fn first_feed(text: &[u8]) -> Option<usize>
     ensures { FeedAt result text.now }
 {
-    for i in 0..text.len() {
-        if text[i] == b'\n' {
-            return Some(i);
-        }
-    }
-    None
+    text.iter().position(|byte| *byte == b'\n')
 }
 
 // The text up to its first line feed, and the text after that feed.
@@ -26,7 +23,7 @@ fn next_line(text: &[u8]) -> (&[u8], &[u8])
     ensures rest { result.1.now ≡ after_line text.now }
 {
     match first_feed(text) {
-        Some(i) => (&text[0..i], &text[i + 1..]),
+        Some(i) => (&text[..i], &text[i + 1..]),
         None => (text, &[]),
     }
 }
@@ -36,14 +33,12 @@ fn push_reply(
     replies: &mut Vec<u8>,
     text: &[u8],
     case: &mut Case,
-    turns: &mut [u32; 512],
-    table: &mut [i32; 512],
+    tables: &mut Tables,
 ) -> Result<(), AllocError>
     ensures { Pushed (contents case.old) text.now (contents case.new) replies.old.items replies.new.items result }
 {
-    let mut reply = [0; 64];
-    let length = put_reply(text, case, turns, table, &mut reply);
-    replies.extend_from_slice(&reply[0..length])
+    let reply = Reply::of(judge_line(text, case, tables));
+    replies.extend_from_slice(reply.as_bytes())
 }
 
 /// Has the case do what each line of the text asks, judged cycles first, and answers the replies, one after the other.
@@ -52,13 +47,11 @@ pub fn session(heap: Global, case: &mut Case, text: &[u8]) -> Result<Vec<u8>, Al
     ensures { MatchResult result (λ v. Replies (contents case.old) (lines text.now) v.items (contents case.new)) (λ _. Stopped (contents case.old) (lines text.now) (contents case.new)) }
 {
     let mut replies = Vec::new(heap);
-    // room for the numbers of a line, lent to each
-    let mut turns = [0; 512];
-    let mut table = [0; 512];
+    let mut tables = Tables::new();
     let mut rest = text;
     while !rest.is_empty() {
         let (first, after) = next_line(rest);
-        push_reply(&mut replies, first, case, &mut turns, &mut table)?;
+        push_reply(&mut replies, first, case, &mut tables)?;
         rest = after;
     }
     Ok(replies)

@@ -1,8 +1,6 @@
-pub mod Fronts
 pub mod Marks
 pub mod Readers
 pub mod Decimals
 pub mod Listing
-pub mod Tables
 pub mod Lines
 pub mod Requests

@@ -1,6 +1,5 @@
 -- Lists of numbers, read one by one.
-use Rattle.std.proofs.Common.{◌≡◌, ℕ, zero, suc, ◌≤◌, List, [], ◌∷◌, ◌++◌, length, ℤ, Some, None, Option, sym, refl, ap, ◌∙◌, append_assoc, arith}
-use Rattle.std.proofs.lemmas.List.{append-nil}
+use Rattle.std.proofs.Common.{◌≡◌, ℕ, suc, ◌≤◌, List, [], ◌∷◌, ◌++◌, length, ℤ, Some, None, Option, sym, refl, ap, ◌∙◌, append_assoc, arith}
 use Rattle.grammar.specs.Options.{and_then}
 use Rattle.grammar.specs.Numbers.{natural_after, integer_after}
 use Rattle.grammar.specs.Reading.{naturals_front, integers_in}
@@ -25,10 +24,6 @@ naturals_more ns left text rest n e =
     ap (λ o. joined ns (and_then o (λ p. and_then {B = List ℕ × List ℕ} (naturals_front left p.1) (λ q. Some (p.0 ∷ q.0, q.1))))) (sym e)
     ∙ joined_one ns n (naturals_front left rest)
 
-pub naturals_none : (ns : List ℕ) (left : ℕ) (text : List ℕ) → None ≡ natural_after text → joined ns (naturals_front (suc left) text) ≡ None
-naturals_none ns left text e =
-    ap (λ o. joined ns (and_then o (λ p. and_then {B = List ℕ × List ℕ} (naturals_front left p.1) (λ q. Some (p.0 ∷ q.0, q.1))))) (sym e)
-
 behind_one : (zs : List ℤ) (z : ℤ) (o : Option (List ℤ)) → behind zs (and_then o (λ ys. Some (z ∷ ys))) ≡ behind (zs ++ (z ∷ [])) o
 behind_one zs z None = refl
 behind_one zs z (Some ys) = ap Some (sym (append_assoc zs (z ∷ []) ys))
@@ -38,11 +33,3 @@ pub integers_more : (zs : List ℤ) (room : ℕ) (text rest : List ℕ) (z : ℤ
 integers_more zs room [] rest z h e = absurd (omega arith)
 integers_more zs room (c ∷ cs) rest z h e =
     ap (λ o. behind zs (and_then o (λ p. and_then (integers_in room p.1) (λ ys. Some (p.0 ∷ ys))))) (sym e) ∙ behind_one zs z (integers_in room rest)
-
-pub integers_none : (zs : List ℤ) (room : ℕ) (text : List ℕ) → 1 ≤ length text → None ≡ integer_after text → behind zs (integers_in (suc room) text) ≡ None
-integers_none zs room [] h e = absurd (omega arith)
-integers_none zs room (c ∷ cs) h e = ap (λ o. behind zs (and_then o (λ p. and_then (integers_in room p.1) (λ ys. Some (p.0 ∷ ys))))) (sym e)
-
-pub joined_nothing : (ns text : List ℕ) (left : ℕ) → left ≡ zero → joined ns (naturals_front left text) ≡ Some (ns, text)
-joined_nothing ns text zero e = ap (λ ms. Some (ms, text)) (append-nil ns)
-joined_nothing ns text (suc left) e = absurd (omega arith)

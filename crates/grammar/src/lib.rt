@@ -5,4 +5,4 @@ mod list;
 mod number;
 mod reader;
 
-pub use reader::read;
+pub use reader::{Tables, read};

@@ -10,10 +10,7 @@ ghost use Rattle.std.specs.Option.{option_map};
 fn digit(byte: u8) -> Option<u32>
     ensures { result ≡ digit_of byte }
 {
-    match byte {
-        b'0'..=b'9' => Some((byte - b'0') as u32),
-        _ => None,
-    }
+    char::from(byte).to_digit(10)
 }
 
 // The number with one more digit, if it stays a `u32`; a 0 takes none.
@@ -23,8 +20,7 @@ fn with_digit(number: u32, byte: u8) -> Option<u32>
     if number == 0 {
         return None;
     }
-    let digit = digit(byte)?;
-    number.checked_mul(10)?.checked_add(digit)
+    number.checked_mul(10)?.checked_add(digit(byte)?)
 }
 
 // The number that goes on with the digits at the front of `text`, and the text after it.
@@ -47,9 +43,7 @@ fn digits_on(start: u32, text: &[u8]) -> Option<(u32, &[u8])>
 fn natural_front(text: &[u8]) -> Option<(u32, &[u8])>
     ensures { held result ≡ natural_front text.now }
 {
-    let [first, rest @ ..] = text else {
-        return None;
-    };
+    let (first, rest) = text.split_first()?;
     digits_on(digit(*first)?, rest)
 }
 
@@ -57,24 +51,20 @@ fn natural_front(text: &[u8]) -> Option<(u32, &[u8])>
 fn positive(size: u32) -> Option<i32>
     ensures { result ≡ positive_of size }
 {
-    if size < 0x8000_0000 {
-        Some(size as i32)
-    } else {
-        None
-    }
+    i32::try_from(size).ok()
 }
 
 // The negative number of this size, if it is an `i32`; 0 has none.
 fn negative(size: u32) -> Option<i32>
     ensures { result ≡ negative_of size }
 {
-    if size == 0 || size > 0x8000_0000 {
+    if size == 0 {
         return None;
     }
-    Some((-(size as i64)) as i32)
+    0i32.checked_sub_unsigned(size)
 }
 
-// The text after a mark that it begins with.
+// The text after a mark that it begins with: `strip_prefix` in one equation, which the readers are proved by.
 pub(crate) fn after<'a>(mark: &[u8], text: &'a [u8]) -> Option<&'a [u8]>
     ensures { option_map (λ x. x.now) result ≡ after_mark mark.now text.now }
 {

@@ -1,13 +1,14 @@
 -- What was read and what is still to read make up the answer.
-use Rattle.std.proofs.Common.{◌≡◌, ◌-◌, ◌≤◌, length, take}
+use Rattle.std.proofs.Common.{◌≡◌, ◌-◌, ◌≤◌}
+use Rattle.arrayvec.specs.ArrayVec.{array_vec_len}
 use Rattle.grammar.specs.Reading.{integers_in}
 use Rattle.grammar.proofs.Listing.{behind}
 use Rattle.grammar.proofs.list.integers.Given as goal
 
 abbrev pub invariant-loop-rest : goal.invariant-loop-rest
 invariant-loop-rest l =
-    (l.count ≤ length l.initial.table)
-    × (behind (take l.count l.table) (integers_in (length l.initial.table - l.count) l.rest) ≡ integers_in (length l.initial.table) l.text)
+    (array_vec_len l.table ≤ l.room)
+    × (behind (l.table).items (integers_in (l.room - array_vec_len l.table) l.rest) ≡ integers_in l.room l.text)
 
 abbrev pub decreases-loop-rest : goal.decreases-loop-rest
-decreases-loop-rest l = length l.initial.table - l.count
+decreases-loop-rest l = l.room - array_vec_len l.table

@@ -4,6 +4,6 @@ use Rattle.grammar.specs.Reading.{naturals_front}
 use Rattle.grammar.proofs.Listing.{joined}
 use Rattle.grammar.proofs.list.naturals.Given as goal
 
-abbrev pub invariant-loop-i : goal.invariant-loop-i
-invariant-loop-i l =
-    joined (take l.i l.table) (naturals_front (length l.initial.table - l.i) l.rest) ≡ naturals_front (length l.initial.table) l.text
+abbrev pub invariant-loop-slot : goal.invariant-loop-slot
+invariant-loop-slot l =
+    joined (take l.slot-index l.table) (naturals_front (length l.initial.table - l.slot-index) l.rest) ≡ naturals_front (length l.initial.table) l.text

@@ -1,4 +1,0 @@
-use Rattle.console.proofs.decimals.+put_natural.Given as goal
-
-abbrev pub decreases-put_natural : goal.decreases-put_natural
-decreases-put_natural l = l.number

@@ -1,9 +1,0 @@
-use Rattle.std.proofs.Common.{[], ◌∷◌, arith}
-use Rattle.console.proofs.Buffers.{appended_byte, appended_then}
-use Rattle.console.proofs.texts.put_with_naturals.Goals as goal
-
-pub returns : goal.returns
-returns c =
-    appended_then _ _ _ _ _ _ _ _ c.put_text-start.ensures
-    (appended_then _ _ _ _ (10 ∷ []) _ _ _ c.put_naturals-end.ensures
-    (appended_byte _ 10 _ (omega (arith, c.put_text-start.ensures.ends, c.put_naturals-end.ensures.ends))))
