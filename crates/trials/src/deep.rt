@@ -20,12 +20,7 @@ fn push_leaf(tree: &mut Vec<i32>) -> Result<(), AllocError> {
 pub(crate) fn deep_tree(heap: Global) -> Result<Vec<i32>, AllocError> {
     let mut tree = Vec::new(heap);
     for leaf in 0..LEAVES {
-        let splits = if leaf == 0 {
-            SPLITS
-        } else {
-            leaf.trailing_zeros()
-        };
-        for _ in 0..splits {
+        for _ in 0..leaf.trailing_zeros().min(SPLITS) {
             push_split(&mut tree)?;
         }
         push_leaf(&mut tree)?;

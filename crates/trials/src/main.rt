@@ -13,6 +13,15 @@ use std::alloc::Global;
 use std::fs;
 use std::io::Write;
 
+const SESSIONS: [&str; 6] = [
+    "retry-loop.txt",
+    "half-integral-row.txt",
+    "balanced-but-no-run.txt",
+    "no-run.txt",
+    "copied-block.txt",
+    "below-and-equal.txt",
+];
+
 // Prints the replies of a session on a fresh case.
 fn show(rt: &HostRuntime, file: &str) -> anyhow::Result<()> {
     let heap = rt.alloc();
@@ -25,11 +34,7 @@ fn show(rt: &HostRuntime, file: &str) -> anyhow::Result<()> {
 }
 
 // Prints what was answered to a claim.
-fn tell(
-    rt: &HostRuntime,
-    name: &str,
-    answer: Result<Answer, Refusal>,
-) -> anyhow::Result<()> {
+fn tell(rt: &HostRuntime, name: &str, answer: Result<Answer, Refusal>) -> anyhow::Result<()> {
     match answer {
         Ok(Answer::Price(price)) => println!(rt;
             "{name}: certified at {} {}",
@@ -87,19 +92,13 @@ fn claim_deep(rt: &HostRuntime) -> anyhow::Result<()> {
 }
 
 fn weighted() -> anyhow::Result<Weighted> {
-    let Ok(tariff) = Weighted::new(2) else {
-        return Err(anyhow!("no tariff has this weight"));
-    };
-    Ok(tariff)
+    Weighted::new(2).map_err(|_| anyhow!("no tariff has this weight"))
 }
 
 fn run(rt: &HostRuntime) -> anyhow::Result<()> {
-    show(rt, "retry-loop.txt")?;
-    show(rt, "half-integral-row.txt")?;
-    show(rt, "balanced-but-no-run.txt")?;
-    show(rt, "no-run.txt")?;
-    show(rt, "copied-block.txt")?;
-    show(rt, "below-and-equal.txt")?;
+    for file in SESSIONS {
+        show(rt, file)?;
+    }
     claim_at_scale_two(rt, "scale 2 under weight 2", &weighted()?)?;
     claim_at_scale_two(rt, "scale 2 cycles-first", &CyclesFirst)?;
     claim_deep(rt)
