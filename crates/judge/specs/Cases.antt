@@ -1,9 +1,10 @@
 -- What a case holds.
-use Rattle.std.specs.Prelude.{List, [], map, vec_items}
-use Rattle.judge.specs.declared.case.Case.{Case}
+use Rattle.std.specs.Prelude.{◌≡◌, ◌≤◌, true, List, [], map, Vec, vec_items, vec_len, vec_capacity}
+use Rattle.judge.specs.Stages.{stage_ends_hold}
 use Rattle.judge.specs.declared.stages.Stage.{Stage}
 use Rattle.judge.specs.declared.stages.Stage.TheVariants.{Draft}
 use Rattle.task.specs.declared.edges.Edge.{Edge}
+use Rattle.task.specs.declared.rows.Row as declared
 use Rattle.task.specs.NewRows.{row_of}
 use Rattle.task.specs.Rows.{Row}
 
@@ -13,8 +14,17 @@ pub record Contents : Type 0 where
   pub edges : List Edge
   pub rows : List Row
 
-abbrev pub contents : Case → Contents
-contents case = record { stage = case.stage; edges = vec_items case.edges; rows = map row_of (vec_items case.rows) }
+module _ {Y : Type 0} (stage : Stage) (edges : Vec Edge Y) (rows : Vec declared.Row Y) where
+  abbrev pub contents : Contents
+  contents = record { stage = stage; edges = vec_items edges; rows = map row_of (vec_items rows) }
+
+  -- the lists are within their limits and have room up to them; past the draft, the ends are those of the graph
+  pub record Sound : Type 0 where
+    pub few_edges : vec_len edges ≤ 64
+    pub edge_room : 64 ≤ vec_capacity edges
+    pub few_rows : vec_len rows ≤ 24
+    pub row_room : 24 ≤ vec_capacity rows
+    pub ends_hold : stage_ends_hold stage (vec_items edges) ≡ true
 
 abbrev pub fresh : Contents
 fresh = record { stage = Draft; edges = []; rows = [] }

@@ -1,8 +1,9 @@
 // The record of a case.
-ghost use Rattle.std.specs.Prelude.{◌≡◌, ◌≤◌, true, vec_len, vec_capacity};
-ghost use Rattle.judge.specs.Stages.{stage_ends_hold};
+ghost use Rattle.std.specs.Prelude.{◌≡◌};
+ghost use Rattle.judge.specs.Cases.{Contents, contents, Sound};
 
 use crate::stages::Stage;
+use std::marker::Model;
 use task::{Edge, Row};
 
 /// One task: its edges, its rows and its stage. The lists have room for all that they may hold,
@@ -12,9 +13,13 @@ pub struct Case {
     pub(crate) stage: Stage,
     pub(crate) edges: Vec<Edge>,
     pub(crate) rows: Vec<Row>,
-    ghost few_edges: { vec_len edges ≤ 64 },
-    ghost edge_room: { 64 ≤ vec_capacity edges },
-    ghost few_rows: { vec_len rows ≤ 24 },
-    ghost row_room: { 24 ≤ vec_capacity rows },
-    ghost ends_hold: { stage_ends_hold stage edges.items ≡ true },
+}
+
+/// In a contract a case is its contents.
+impl Model for Case {
+    ghost Value = { Contents };
+
+    ghost view = { λ case. contents case.stage case.edges case.rows };
+
+    ghost invariant = { λ case. Sound case.stage case.edges case.rows };
 }

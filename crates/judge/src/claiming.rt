@@ -2,7 +2,6 @@
 ghost use Rattle.std.specs.Prelude.{◌≡◌, ◌≤◌, length, IfOk, OnOk};
 ghost use Rattle.certificate.specs.Tasks.{task_of};
 ghost use Rattle.certificate.specs.Verdicts.{void_answer as tree_answer};
-ghost use Rattle.judge.specs.Cases.{contents};
 ghost use Rattle.judge.specs.Claiming.{Accepted, Voided, claim_answer, claim_kept, claim_on, task_between, void_answer, void_kept};
 ghost use Rattle.price.specs.Prices.{pair};
 ghost use Rattle.task.specs.NewRows.{mapped};
@@ -36,7 +35,8 @@ fn judge_claim<T: Tariff>(
 impl Case {
     // What the case lends to be judged.
     fn task(&self, start: u8, end: u8) -> Task<'_>
-        ensures { task_of result ≡ task_between (contents self.now).edges (contents self.now).rows start end }
+        ensures value { task_of result ≡ task_between self.now.edges self.now.rows start end }
+        ensures few { length result.edges.now ≤ 64 }
     {
         Task {
             edges: &self.edges,
@@ -55,7 +55,7 @@ impl Case {
         turns: &[u32],
         tree: &[i32],
     ) -> Result<Price, Refusal>
-        ensures { mapped pair result ≡ claim_on (T.le tariff.now) (T.unit tariff.now) (task_between (contents self.now).edges (contents self.now).rows start end) turns.now tree.now }
+        ensures { mapped pair result ≡ claim_on (T.le tariff.now) (T.unit tariff.now) (task_between self.now.edges self.now.rows start end) turns.now tree.now }
     {
         judge_claim(tariff, self.task(start, end), turns, tree)
     }
@@ -68,7 +68,7 @@ impl Case {
         end: u8,
         tree: &[i32],
     ) -> Result<(), Refusal>
-        ensures { result ≡ tree_answer (T.le tariff.now) (T.unit tariff.now) (task_between (contents self.now).edges (contents self.now).rows start end) tree.now }
+        ensures { result ≡ tree_answer (T.le tariff.now) (T.unit tariff.now) (task_between self.now.edges self.now.rows start end) tree.now }
     {
         prove_void(tariff, self.task(start, end), tree)
     }
@@ -81,9 +81,9 @@ impl Case {
         turns: &[u32],
         tree: &[i32],
     ) -> Result<Price, Refusal>
-        ensures answer { mapped pair result ≡ claim_answer (T.le tariff.now) (T.unit tariff.now) (contents self.old) turns.now tree.now }
-        ensures kept { contents self.new ≡ claim_kept (mapped pair result) (contents self.old) }
-        ensures accepted { IfOk result (λ p. Accepted (T.le tariff.now) (contents self.old).edges (contents self.old).rows turns.now (pair p)) }
+        ensures answer { mapped pair result ≡ claim_answer (T.le tariff.now) (T.unit tariff.now) self.old turns.now tree.now }
+        ensures kept { self.new ≡ claim_kept (mapped pair result) self.old }
+        ensures accepted { IfOk result (λ p. Accepted (T.le tariff.now) self.old.edges self.old.rows turns.now (pair p)) }
     {
         match self.stage {
             Stage::Sealed { start, end } => {
@@ -97,9 +97,9 @@ impl Case {
 
     /// Judges the claim that no run keeps every row, backed by this tree.
     pub fn void<T: Tariff>(&mut self, tariff: &T, tree: &[i32]) -> Result<(), Refusal>
-        ensures answer { result ≡ void_answer (T.le tariff.now) (T.unit tariff.now) (contents self.old) tree.now }
-        ensures kept { contents self.new ≡ void_kept result (contents self.old) }
-        ensures accepted { OnOk result (Voided (contents self.old).edges (contents self.old).rows) }
+        ensures answer { result ≡ void_answer (T.le tariff.now) (T.unit tariff.now) self.old tree.now }
+        ensures kept { self.new ≡ void_kept result self.old }
+        ensures accepted { OnOk result (Voided self.old.edges self.old.rows) }
     {
         match self.stage {
             Stage::Sealed { start, end } => {

@@ -1,6 +1,6 @@
 // The calls that draft a task and seal it.
 ghost use Rattle.std.specs.Prelude.{◌≡◌, ℕ, IfOk, Ok};
-ghost use Rattle.judge.specs.Cases.{contents, fresh};
+ghost use Rattle.judge.specs.Cases.{fresh};
 ghost use Rattle.judge.specs.Drafting.{edge_answer, edge_kept, row_answer, row_kept, seal_answer, seal_kept};
 ghost use Rattle.task.specs.Sealing.{EveryEdge, Sealed};
 
@@ -13,7 +13,7 @@ use task::{Edge, MAX_EDGES, MAX_ROWS, Row, ends, repeats};
 impl Case {
     /// An empty draft; refused only for want of memory.
     pub fn new(heap: Global) -> Result<Case, AllocError>
-        ensures { IfOk result (λ case. contents case ≡ fresh) }
+        ensures { IfOk result (λ case. case ≡ fresh) }
     {
         let edges = Vec::with_capacity(heap, MAX_EDGES)?;
         let rows = Vec::with_capacity(heap, MAX_ROWS)?;
@@ -33,8 +33,8 @@ impl Case {
         cycles: u32,
         reads: u32,
     ) -> Result<usize, Refusal>
-        ensures answer { result ≡ edge_answer (contents self.old) tail head block cycles reads }
-        ensures kept { contents self.new ≡ edge_kept result (contents self.old) tail head block cycles reads }
+        ensures answer { result ≡ edge_answer self.old tail head block cycles reads }
+        ensures kept { self.new ≡ edge_kept result self.old tail head block cycles reads }
     {
         match self.stage {
             Stage::Draft => {}
@@ -54,8 +54,8 @@ impl Case {
 
     /// Adds a row, and answers its number.
     pub fn row(&mut self, relation: i32, k: i32, coefficients: &[i32]) -> Result<usize, Refusal>
-        ensures answer { result ≡ row_answer (contents self.old) relation k coefficients.now }
-        ensures kept { contents self.new ≡ row_kept result (contents self.old) relation k coefficients.now }
+        ensures answer { result ≡ row_answer self.old relation k coefficients.now }
+        ensures kept { self.new ≡ row_kept result self.old relation k coefficients.now }
     {
         match self.stage {
             Stage::Draft => {}
@@ -72,10 +72,10 @@ impl Case {
 
     /// Fixes the graph, and answers its start and its end. They differ, and every edge lies on a path between them.
     pub fn seal(&mut self) -> Result<(u8, u8), Refusal>
-        ensures answer { result ≡ seal_answer (contents self.old) }
-        ensures kept { contents self.new ≡ seal_kept result (contents self.old) }
-        ensures means { self.old.stage ≡ Stage.Draft → Sealed self.old.edges.items result }
-        ensures law { (start end : ℕ) → result ≡ Ok (start, end) → EveryEdge self.old.edges.items start end }
+        ensures answer { result ≡ seal_answer self.old }
+        ensures kept { self.new ≡ seal_kept result self.old }
+        ensures means { self.old.stage ≡ Stage.Draft → Sealed self.old.edges result }
+        ensures law { (start end : ℕ) → result ≡ Ok (start, end) → EveryEdge self.old.edges start end }
     {
         match self.stage {
             Stage::Draft => {}

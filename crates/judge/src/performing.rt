@@ -2,7 +2,6 @@
 ghost use Rattle.std.specs.Prelude.{◌≡◌};
 ghost use Rattle.judge.specs.Answers.{said};
 ghost use Rattle.judge.specs.Calls.{request};
-ghost use Rattle.judge.specs.Cases.{contents};
 ghost use Rattle.judge.specs.Performing.{after, answered};
 
 use crate::calls::{Answer, Call};
@@ -11,8 +10,8 @@ use price::{Refusal, Tariff};
 
 /// Has the case do what is asked under this tariff, and answers what it answered.
 pub fn perform<T: Tariff>(case: &mut Case, tariff: &T, call: &Call) -> Result<Answer, Refusal>
-    ensures answer { said result ≡ answered (T.le tariff.now) (T.unit tariff.now) (contents case.old) (request call.now) }
-    ensures kept { contents case.new ≡ after (T.le tariff.now) (T.unit tariff.now) (contents case.old) (request call.now) }
+    ensures answer { said result ≡ answered (T.le tariff.now) (T.unit tariff.now) case.old (request call.now) }
+    ensures kept { case.new ≡ after (T.le tariff.now) (T.unit tariff.now) case.old (request call.now) }
 {
     match *call {
         Call::Edge {
