@@ -2,7 +2,6 @@
 ghost use Rattle.std.specs.Prelude.{◌≡◌, ◌<◌, ◌≤◌, length, Ok, Err};
 ghost use Rattle.console.specs.Judging.{Judged, Replied};
 ghost use Rattle.judge.specs.Answers.{said};
-ghost use Rattle.judge.specs.Cases.{contents};
 
 use crate::answers::{MAX_REPLY, Reply};
 use grammar::{Tables, read};
@@ -15,7 +14,7 @@ pub(crate) fn judge_line(
     case: &mut Case,
     tables: &mut Tables,
 ) -> Result<Answer, Refusal>
-    ensures { Judged (contents case.old) text.now (said result) (contents case.new) }
+    ensures { Judged case.old text.now (said result) case.new }
 {
     match read(text, tables) {
         Some(call) => perform(case, &CyclesFirst, &call),
@@ -26,8 +25,8 @@ pub(crate) fn judge_line(
 /// Has the case do what the line asks, judged cycles first, writes the reply at the front of the buffer, and answers its length.
 /// A buffer shorter than 64 bytes is refused before all else.
 pub fn line(text: &[u8], case: &mut Case, reply: &mut [u8]) -> Result<usize, Refusal>
-    ensures refused { length reply.old < 64 → (result ≡ Err Refusal.ReplyRoom) × (reply.new ≡ reply.old) × (contents case.new ≡ contents case.old) }
-    ensures replied { 64 ≤ length reply.old → Replied (contents case.old) text.now (contents case.new) reply.old reply.new result }
+    ensures refused { length reply.old < 64 → (result ≡ Err Refusal.ReplyRoom) × (reply.new ≡ reply.old) × (case.new ≡ case.old) }
+    ensures replied { 64 ≤ length reply.old → Replied case.old text.now case.new reply.old reply.new result }
 {
     if reply.len() < MAX_REPLY {
         return Err(Refusal::ReplyRoom);

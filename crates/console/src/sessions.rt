@@ -2,7 +2,6 @@
 ghost use Rattle.std.specs.Prelude.{◌≡◌, MatchResult};
 ghost use Rattle.console.specs.Judging.{Pushed, Replies, Stopped};
 ghost use Rattle.console.specs.Lines.{first_line, after_line, FeedAt, lines};
-ghost use Rattle.judge.specs.Cases.{contents};
 
 use crate::answers::Reply;
 use crate::replies::judge_line;
@@ -35,7 +34,7 @@ fn push_reply(
     case: &mut Case,
     tables: &mut Tables,
 ) -> Result<(), AllocError>
-    ensures { Pushed (contents case.old) text.now (contents case.new) replies.old.items replies.new.items result }
+    ensures { Pushed case.old text.now case.new replies.old.items replies.new.items result }
 {
     let reply = Reply::of(judge_line(text, case, tables));
     replies.extend_from_slice(reply.as_bytes())
@@ -44,7 +43,7 @@ fn push_reply(
 /// Has the case do what each line of the text asks, judged cycles first, and answers the replies, one after the other.
 /// Without memory for a reply it stops after that line.
 pub fn session(heap: Global, case: &mut Case, text: &[u8]) -> Result<Vec<u8>, AllocError>
-    ensures { MatchResult result (λ v. Replies (contents case.old) (lines text.now) v.items (contents case.new)) (λ _. Stopped (contents case.old) (lines text.now) (contents case.new)) }
+    ensures { MatchResult result (λ v. Replies case.old (lines text.now) v.items case.new) (λ _. Stopped case.old (lines text.now) case.new) }
 {
     let mut replies = Vec::new(heap);
     let mut tables = Tables::new();

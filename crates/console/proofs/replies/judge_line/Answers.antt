@@ -1,13 +1,12 @@
 use Rattle.std.proofs.Common.{◌≡◌, refl, ap, ◌∙◌}
 use Rattle.price.specs.Tariffs.{by_cycles, one_read}
 use Rattle.judge.specs.Calls.{request}
-use Rattle.judge.specs.Cases.{contents}
 use Rattle.judge.specs.Performing.{answered, after}
 use Rattle.console.proofs.replies.judge_line.Goals as goal
 
 pub returns-in-Some : goal.returns-in-Some
 returns-in-Some c =
-    let held = contents c.args.case.now in
+    let held = c.args.case.now in
     let own = request c.in-Some.call in
     let read = c.in-Some.ensures in
     record {

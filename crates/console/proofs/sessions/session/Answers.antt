@@ -1,7 +1,6 @@
 use Rattle.std.proofs.Common.{◌≤◌, ◌++◌, length, vec_items, refl, ap, arith}
 use Rattle.std.proofs.lemmas.Result.{MatchResult-from_err}
 use Rattle.std.proofs.lemmas.Bool.Decides.{nat_tests}
-use Rattle.judge.specs.Cases.{contents}
 use Rattle.console.specs.Lines.{lines}
 use Rattle.console.specs.Rendering.{rendered}
 use Rattle.console.proofs.Feeds.{after_shorter}
@@ -24,7 +23,7 @@ loop-rest-smaller c =
 pub loop-rest-preserved : goal.loop-rest-preserved
 loop-rest-preserved c =
     let pushed = c.in_ok-push_reply.ensures in
-    reached_more _ _ (contents c.push_reply.new.case) _ c.loop-rest.rest.now _ c.next_line.result.1.now (vec_items c.loop-rest.replies)
+    reached_more _ _ c.push_reply.new.case _ c.loop-rest.rest.now _ c.next_line.result.1.now (vec_items c.loop-rest.replies)
     (vec_items c.push_reply.new.replies) pushed.answer c.loop-rest.invariant (grind (arith, nat_tests)) c.next_line.ensures.line c.next_line.ensures.rest pushed.judged pushed.items
 
 pub returns : goal.returns
