@@ -1,8 +1,12 @@
 -- The first line, and all lines.
-use Rattle.std.proofs.Common.{◌≡◌, ℕ, suc, ◌+◌, ◌<◌, ◌≤◌, Bool, true, false, not, cond, eqb, ltb, ltb-true, ltb-false, List, [], ◌∷◌, ◌++◌, length, take, drop, Some, None, Option, sym, refl, ap, ◌∙◌, subst, append_assoc, arith}
-use Rattle.std.specs.List.{position, position_or_len}
-use Rattle.std.proofs.lemmas.List.{append-nil, take_all, drop_all}
-use Rattle.console.specs.Lines.{first_line, after_line, FeedAt, lines_on, lines}
+use Rattle.std.proofs.Common.{◌≡◌, ℕ, suc, ◌+◌, ◌<◌, ◌≤◌, Bool, true, false, not, cond, eqb, ltb, ltb-true, ltb-false, List, [], ◌∷◌, ◌++◌, length, get_or, take, drop, min, Some, None, Option, MatchOption, Bor, sym, refl, ap, ◌∙◌, subst, append_assoc, length-append, arith}
+use Rattle.std.specs.Option.{unwrap_or}
+use Rattle.std.specs.List.{AllWithin, HoldsAt, position_or_len}
+use Rattle.std.proofs.Math.Seq.{take-append_seam, drop-append_seam, get_or-append_seam}
+use Rattle.std.proofs.lemmas.Bool.{eqb-true}
+use Rattle.std.proofs.lemmas.List.Sums.{position_or_len_is, passes_at_first, fails_before_first}
+use Rattle.std.proofs.lemmas.List.{append-nil, take_all, take_more, take_min, drop_min, append_cancel_right}
+use Rattle.console.specs.Lines.{first_line, after_line, lines_on, lines}
 
 -- a text that has any byte is its first line and the lines after it
 lines_by : (line cs : List ℕ) (c : ℕ) (b : Bool) →
@@ -20,21 +24,9 @@ lines_more (b ∷ line) (c ∷ cs) h = lines_by (b ∷ line) cs c (eqb c 10) (li
 pub lines_next : (text : List ℕ) → 1 ≤ length text → lines text ≡ first_line text ∷ lines (after_line text)
 lines_next text h = lines_more [] text (omega arith)
 
-after_by : (c : ℕ) (cs : List ℕ) (b : Bool) → length (after_line cs) ≤ length cs → length (cond b cs (after_line cs)) ≤ length cs
-after_by c cs true more = omega arith
-after_by c cs false more = more
-
-after_within : (text : List ℕ) → length (after_line text) ≤ length text
-after_within [] = omega arith
-after_within (c ∷ cs) = let h = after_by c cs (eqb c 10) (after_within cs) in omega arith
-
-pub after_shorter : (text : List ℕ) → 1 ≤ length text → length (after_line text) < length text
-after_shorter [] h = absurd (omega arith)
-after_shorter (c ∷ cs) h = let k = after_by c cs (eqb c 10) (after_within cs) in omega arith
-
 -- where the first feed stands
 
-abbrev is_feed : ℕ → Bool
+abbrev pub is_feed : ℕ → Bool
 is_feed c = eqb c 10
 
 first_by : (c n : ℕ) (cs : List ℕ) (b : Bool) → first_line cs ≡ take n cs → cond b [] (c ∷ first_line cs) ≡ take (cond (not b) (1 + n) 0) (c ∷ cs)
@@ -53,12 +45,55 @@ rest_after : (text : List ℕ) → after_line text ≡ drop (position_or_len is_
 rest_after [] = refl
 rest_after (c ∷ cs) = rest_by c (position_or_len is_feed cs) cs (eqb c 10) (rest_after cs)
 
-feed_by : (text : List ℕ) (b : Bool) → ltb (position_or_len is_feed text) (length text) ≡ b → FeedAt (cond b (Some (position_or_len is_feed text)) None) text
-feed_by text true e = (ltb-true _ _ e, first_before text, rest_after text)
-feed_by text false e = (
-  first_before text ∙ take_all _ text (ltb-false _ _ e),
-  rest_after text ∙ drop_all _ text (omega (arith, ltb-false _ _ e)),
-)
+-- a piece of the text up to its first feed and with it, or up to its end, and what comes after the piece
+module _ (text piece more : List ℕ) (i : ℕ) (whole : text ≡ piece ++ more) (long : length piece ≡ min (i + 1) (length text))
+    (none : AllWithin (λ c. is_feed c ≡ false) text 0 i) (here : i < length text → HoldsAt (λ c. is_feed c ≡ true) text i) where
+  feed_place : position_or_len is_feed text ≡ min i (length text)
+  feed_place =
+      position_or_len_is is_feed text (min i (length text)) 0 (omega arith) (λ k h. none k 0 (omega arith) (omega arith))
+      (λ h. let same : i ≡ min i (length text) = omega arith in subst (λ k. is_feed (get_or text k 0) ≡ true) same (here (omega arith) 0))
 
-pub feed_position : (text : List ℕ) (r : Option ℕ) → r ≡ position is_feed text → FeedAt r text
-feed_position text r e = subst (λ o. FeedAt o text) (sym e) (feed_by text (ltb (position_or_len is_feed text) (length text)) refl)
+  pub more_after : more ≡ after_line text
+  more_after =
+      let same : length piece ≡ min (position_or_len is_feed text + 1) (length text) = omega (arith, long, feed_place) in
+      sym (drop-append_seam piece more) ∙ ap (drop (length piece)) (sym whole) ∙ ap (λ n. drop n text) same
+      ∙ drop_min (position_or_len is_feed text + 1) text ∙ sym (rest_after text)
+
+  piece_front : piece ≡ take (position_or_len is_feed text + 1) text
+  piece_front =
+      let same : length piece ≡ min (position_or_len is_feed text + 1) (length text) = omega (arith, long, feed_place) in
+      sym (take-append_seam piece more) ∙ ap (take (length piece)) (sym whole) ∙ ap (λ n. take n text) same
+      ∙ take_min (position_or_len is_feed text + 1) text
+
+  fed : position_or_len is_feed text < length text → piece ≡ first_line text ++ (10 ∷ [])
+  fed h =
+      let n = position_or_len is_feed text in
+      let feed = eqb-true (get_or text n 0) 10 (passes_at_first is_feed text 0 h) in
+      piece_front ∙ take_more text n 0 h ∙ ap (λ l. l ++ (get_or text n 0 ∷ [])) (sym (first_before text)) ∙ ap (λ c. first_line text ++ (c ∷ [])) feed
+
+  unfed : length text ≤ position_or_len is_feed text → piece ≡ first_line text
+  unfed h =
+      let n = position_or_len is_feed text in
+      piece_front ∙ take_all (n + 1) text (omega arith) ∙ sym (take_all n text h) ∙ sym (first_before text)
+
+  -- a text without a feed does not end in one
+  no_feed_last : (front : List ℕ) → length text ≤ position_or_len is_feed text → piece ≡ front ++ (10 ∷ []) → ⊥
+  no_feed_last front h ends =
+      let all : text ≡ front ++ (10 ∷ []) = sym (take_all (position_or_len is_feed text + 1) text (omega arith)) ∙ sym piece_front ∙ ends in
+      let last : get_or text (length front) 0 ≡ 10 = ap (λ l. get_or l (length front) 0) all ∙ get_or-append_seam front 10 [] 0 in
+      let inside : length front < position_or_len is_feed text = omega (arith, ap length all, length-append front (10 ∷ [])) in
+      let no : is_feed (get_or text (length front) 0) ≡ false = fails_before_first is_feed text (length front) 0 inside in
+      let yes : is_feed (get_or text (length front) 0) ≡ true = ap is_feed last in
+      cc
+
+  line_by : (r : Option (Bor (List ℕ))) (own : Bor (List ℕ)) (b : Bool) → ltb (position_or_len is_feed text) (length text) ≡ b → own.now ≡ piece →
+      MatchOption r ((front : List ℕ) → piece ≡ front ++ (10 ∷ []) → ⊥) (λ x. piece ≡ x.now ++ (10 ∷ [])) → (unwrap_or r own).now ≡ first_line text
+  line_by None own true e same h = absurd (h (first_line text) (fed (ltb-true _ _ e)))
+  line_by None own false e same h = same ∙ unfed (ltb-false _ _ e)
+  line_by (Some x) own true e same h = append_cancel_right x.now (first_line text) (10 ∷ []) (sym h ∙ fed (ltb-true _ _ e))
+  line_by (Some x) own false e same h = absurd (no_feed_last x.now (ltb-false _ _ e) h)
+
+  -- the piece without its feed, where it has one
+  pub line_before : (r : Option (Bor (List ℕ))) (own : Bor (List ℕ)) → own.now ≡ piece →
+      MatchOption r ((front : List ℕ) → piece ≡ front ++ (10 ∷ []) → ⊥) (λ x. piece ≡ x.now ++ (10 ∷ [])) → (unwrap_or r own).now ≡ first_line text
+  line_before r own same h = line_by r own (ltb (position_or_len is_feed text) (length text)) refl same h

@@ -1,12 +1,14 @@
 -- One line more.
-use Rattle.std.proofs.Common.{◌≡◌, ℕ, ◌≤◌, Bool, cond, List, [], ◌∷◌, ◌++◌, length, take, drop, Ok, sym, refl, ap, ◌∙◌, subst, append_assoc, arith, length-append}
-use Rattle.std.proofs.lemmas.List.{append-nil, nil_from_length, take_at}
+use Rattle.std.proofs.Common.{true, false, min, ◌+◌, ◌<◌, Option, MatchOption, Bor, ◌≡◌, ℕ, ◌≤◌, List, [], ◌∷◌, ◌++◌, length, sym, refl, ap, ◌∙◌, subst, append_assoc}
+use Rattle.std.proofs.lemmas.List.{append-nil}
+use Rattle.std.specs.List.{AllWithin, HoldsAt}
+use Rattle.std.specs.Option.{unwrap_or}
 use Rattle.judge.specs.Answers.{Said}
 use Rattle.judge.specs.Cases.{Contents}
-use Rattle.console.specs.Judging.{Judged, Replied, Replies, Reached}
+use Rattle.console.specs.Judging.{Judged, Replies, Reached}
 use Rattle.console.specs.Lines.{first_line, after_line, lines}
 use Rattle.console.specs.Rendering.{rendered}
-use Rattle.console.proofs.Feeds.{lines_next}
+use Rattle.console.proofs.Feeds.{is_feed, lines_next, more_after, line_before}
 
 replies_push : (held between kept : Contents) (texts : List (List ℕ)) (text bytes : List ℕ) (answer : Said) →
     Replies held texts bytes between → Judged between text answer kept → Replies held (texts ++ (text ∷ [])) (bytes ++ rendered answer) kept
@@ -27,19 +29,6 @@ replies_push held between kept (first ∷ texts) text bytes answer turn judged =
   rest = replies_push turn.next between kept texts text turn.more answer turn.rest judged;
 }
 
--- the part of the buffer that the reply takes
-pub reply_part : (held kept : Contents) (text before after : List ℕ) (n : ℕ) (p : Replied held text kept before after (Ok n)) →
-    (n ≤ length after) × (take n after ≡ rendered p.answer)
-reply_part held kept text before after n p =
-    let same : n ≡ length (rendered p.answer) = let e = p.ends in cc in
-    let rest = drop (length (rendered p.answer)) before in (
-      omega (arith, ap length p.buffer, length-append (rendered p.answer) rest),
-      ap (take n) p.buffer ∙ take_at (rendered p.answer) rest n (sym same),
-    )
-
-pub pushed_like : (was now part bytes : List ℕ) (b : Bool) → now ≡ cond b (was ++ part) was → part ≡ bytes → now ≡ cond b (was ++ bytes) was
-pushed_like was now part bytes b is same = is ∙ ap (λ more. cond b (was ++ more) was) same
-
 -- the next line has its reply too
 pub reached_more : (held between kept : Contents) (texts : List (List ℕ)) (rest first after bytes more : List ℕ) (answer : Said) →
     Reached held texts (lines rest) bytes between → 1 ≤ length rest → first ≡ first_line rest → after ≡ after_line rest →
@@ -54,9 +43,14 @@ reached_more held between kept texts rest first after bytes more answer reached 
           (replies_push held between kept reached.done first bytes answer reached.replies judged);
     }
 
-pub reached_all : (held kept : Contents) (texts : List (List ℕ)) (rest bytes : List ℕ) → length rest ≡ 0 →
-    Reached held texts (lines rest) bytes kept → Replies held texts bytes kept
-reached_all held kept texts rest bytes none reached =
-    let whole : reached.done ≡ texts =
-    sym (append-nil reached.done) ∙ ap (λ ls. reached.done ++ lines ls) (sym (nil_from_length rest none)) ∙ reached.split in
-    subst (λ ts. Replies held ts bytes kept) whole reached.replies
+-- the same of the next piece of the text that is left, without its feed
+pub piece_done : (held between kept : Contents) (texts : List (List ℕ)) (text more bytes new : List ℕ) (answer : Said) (i : ℕ) (piece : Bor (List ℕ))
+    (r : Option (Bor (List ℕ))) (line : Bor (List ℕ)) →
+    text ≡ piece.now ++ more → length piece.now ≡ min (i + 1) (length text) →
+    AllWithin (λ c. is_feed c ≡ false) text 0 i × (i < length text → HoldsAt (λ c. is_feed c ≡ true) text i) → 1 ≤ length text →
+    MatchOption r ((front : List ℕ) → piece.now ≡ front ++ (10 ∷ []) → ⊥) (λ x. piece.now ≡ x.now ++ (10 ∷ [])) → line ≡ unwrap_or r piece →
+    Reached held texts (lines text) bytes between → Judged between line.now answer kept → new ≡ bytes ++ rendered answer → Reached held texts (lines more) new kept
+piece_done held between kept texts text more bytes new answer i piece r line whole long first some stripped own reached judged joined =
+    reached_more held between kept texts text line.now more bytes new answer reached some
+    (ap (λ x. x.now) own ∙ line_before text piece.now more i whole long first.0 first.1 r piece refl stripped)
+    (more_after text piece.now more i whole long first.0 first.1) judged joined

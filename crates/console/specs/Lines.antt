@@ -1,5 +1,5 @@
 -- The lines of a text.
-use Rattle.std.specs.Prelude.{◌≡◌, ℕ, ◌+◌, ◌<◌, cond, List, [], ◌∷◌, ◌++◌, length, take, drop, Some, None, Option, ◌==◌}
+use Rattle.std.specs.Prelude.{ℕ, cond, List, [], ◌∷◌, ◌++◌, ◌==◌}
 
 -- the text up to its first line feed, and the text after it
 abbrev pub first_line : List ℕ → List ℕ
@@ -9,11 +9,6 @@ first_line (c ∷ cs) = cond (c == 10) [] (c ∷ first_line cs)
 abbrev pub after_line : List ℕ → List ℕ
 after_line [] = []
 after_line (c ∷ cs) = cond (c == 10) cs (after_line cs)
-
--- the place of the first feed, where there is one
-abbrev pub FeedAt : Option ℕ → List ℕ → Type 0
-FeedAt None text = (first_line text ≡ text) × (after_line text ≡ [])
-FeedAt (Some i) text = (i < length text) × (first_line text ≡ take i text) × (after_line text ≡ drop (i + 1) text)
 
 -- the lines of a text that goes on after the bytes of a line; a last line without a feed counts if it has any byte
 abbrev pub lines_on : List ℕ → List ℕ → List (List ℕ)

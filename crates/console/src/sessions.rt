@@ -1,31 +1,13 @@
 // A text of many lines.
-ghost use Rattle.std.specs.Prelude.{◌≡◌, MatchResult};
+ghost use Rattle.std.specs.Prelude.{MatchResult};
 ghost use Rattle.console.specs.Judging.{Pushed, Replies, Stopped};
-ghost use Rattle.console.specs.Lines.{first_line, after_line, FeedAt, lines};
+ghost use Rattle.console.specs.Lines.{lines};
 
 use crate::answers::Reply;
 use crate::replies::judge_line;
 use grammar::Tables;
 use judge::Case;
 use std::alloc::{AllocError, Global};
-
-// The place of the first line feed.
-fn first_feed(text: &[u8]) -> Option<usize>
-    ensures { FeedAt result text.now }
-{
-    text.iter().position(|byte| *byte == b'\n')
-}
-
-// The text up to its first line feed, and the text after that feed.
-fn next_line(text: &[u8]) -> (&[u8], &[u8])
-    ensures line { result.0.now ≡ first_line text.now }
-    ensures rest { result.1.now ≡ after_line text.now }
-{
-    match first_feed(text) {
-        Some(i) => (&text[..i], &text[i + 1..]),
-        None => (text, &[]),
-    }
-}
 
 // Has the case do what the line asks, and adds the reply.
 fn push_reply(
@@ -47,11 +29,9 @@ pub fn session(heap: Global, case: &mut Case, text: &[u8]) -> Result<Vec<u8>, Al
 {
     let mut replies = Vec::new(heap);
     let mut tables = Tables::new();
-    let mut rest = text;
-    while !rest.is_empty() {
-        let (first, after) = next_line(rest);
-        push_reply(&mut replies, first, case, &mut tables)?;
-        rest = after;
+    for line in text.split_inclusive(|byte| *byte == b'\n') {
+        let line = line.strip_suffix(b"\n").unwrap_or(line);
+        push_reply(&mut replies, line, case, &mut tables)?;
     }
     Ok(replies)
 }

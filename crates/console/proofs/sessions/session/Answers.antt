@@ -1,30 +1,32 @@
-use Rattle.std.proofs.Common.{◌≤◌, ◌++◌, length, vec_items, refl, ap, arith}
+use Rattle.std.proofs.Common.{[], ◌∷◌, ◌++◌, rules, vec_items, refl}
+use Rattle.std.specs.Slice.Iter.{split_inclusive_rest}
+use Rattle.std.proofs.lemmas.Bool.Decides.{Decides-eqb}
+use Rattle.std.proofs.lemmas.List.Sorted.{answers_always}
 use Rattle.std.proofs.lemmas.Result.{MatchResult-from_err}
-use Rattle.std.proofs.lemmas.Bool.Decides.{nat_tests}
+use Rattle.std.proofs.lemmas.Slice.Eq.{strip_suffix_is}
 use Rattle.console.specs.Lines.{lines}
 use Rattle.console.specs.Rendering.{rendered}
-use Rattle.console.proofs.Feeds.{after_shorter}
-use Rattle.console.proofs.OneByOne.{reached_more, reached_all}
+use Rattle.console.proofs.Feeds.{is_feed}
+use Rattle.console.proofs.OneByOne.{piece_done}
 use Rattle.console.proofs.sessions.session.Goals as goal
+
+pub loop-line-preserved : goal.loop-line-preserved
+loop-line-preserved c =
+    let step = c.in-Some.ensures.steps in let pushed = c.in_ok-push_reply.ensures in
+    let first = step.1.2 is_feed (answers_always _ _ _ (λ f a r g h. search rules)) in
+    record {
+      can = search rules;
+      reached =
+          piece_done _ _ _ _ _ _ _ _ pushed.answer step.1.0 c.in-Some.line c.strip_suffix.result c.unwrap_or-line.result step.0 step.1.1 first.1 step.2
+          (strip_suffix_is Decides-eqb _ (10 ∷ []) _ c.strip_suffix.ensures.cases) c.unwrap_or-line.ensures c.loop-line.invariant.reached pushed.judged pushed.items;
+    }
 
 pub returns-in_err-push_reply : goal.returns-in_err-push_reply
 returns-in_err-push_reply c =
-    let pushed = c.push_reply.ensures in let rest = c.next_line.result.1.now in
-    let bytes = vec_items c.loop-rest.replies ++ rendered pushed.answer in
-    let reached = reached_more _ _ _ _ c.loop-rest.rest.now _ rest _ bytes pushed.answer c.loop-rest.invariant (grind (arith, nat_tests))
-    c.next_line.ensures.line c.next_line.ensures.rest pushed.judged refl in
-    MatchResult-from_err c.from_residual.result _ _ c.from_residual.ensures.0 (λ _. (lines rest, (bytes, reached)))
-
-pub loop-rest-smaller : goal.loop-rest-smaller
-loop-rest-smaller c =
-    let some : 1 ≤ length c.loop-rest.rest.now = grind (arith, nat_tests) in
-    omega (arith, after_shorter c.loop-rest.rest.now some, ap length c.next_line.ensures.rest)
-
-pub loop-rest-preserved : goal.loop-rest-preserved
-loop-rest-preserved c =
-    let pushed = c.in_ok-push_reply.ensures in
-    reached_more _ _ c.push_reply.new.case _ c.loop-rest.rest.now _ c.next_line.result.1.now (vec_items c.loop-rest.replies)
-    (vec_items c.push_reply.new.replies) pushed.answer c.loop-rest.invariant (grind (arith, nat_tests)) c.next_line.ensures.line c.next_line.ensures.rest pushed.judged pushed.items
-
-pub returns : goal.returns
-returns c = reached_all _ _ _ c.loop-rest.rest.now _ (grind (arith, nat_tests)) c.loop-rest.invariant
+    let step = c.in-Some.ensures.steps in let pushed = c.push_reply.ensures in
+    let first = step.1.2 is_feed (answers_always _ _ _ (λ f a r g h. search rules)) in
+    let more = split_inclusive_rest c.next.new.self in let bytes = vec_items c.loop-line.replies ++ rendered pushed.answer in
+    let reached =
+    piece_done _ _ _ _ _ more _ bytes pushed.answer step.1.0 c.in-Some.line c.strip_suffix.result c.unwrap_or-line.result step.0 step.1.1 first.1 step.2
+    (strip_suffix_is Decides-eqb _ (10 ∷ []) _ c.strip_suffix.ensures.cases) c.unwrap_or-line.ensures c.loop-line.invariant.reached pushed.judged refl in
+    MatchResult-from_err c.from_residual.result _ _ c.from_residual.ensures.0 (λ _. (lines more, (bytes, reached)))
