@@ -1,14 +1,15 @@
 -- The text after a mark that it begins with.
-use Rattle.std.proofs.Common.{◌≡◌, ℕ, Bool, true, false, cond, eqb, List, [], ◌∷◌, ◌++◌, Some, None, Option, sym, refl, ap, ◌∙◌, subst, arith, Bor, MatchOption}
+use Rattle.std.proofs.Common.{◌≡◌, ℕ, Bool, true, false, cond, eqb, List, [], ◌∷◌, ◌++◌, Some, None, Option, sym, refl, ap, ◌∙◌, subst, Bor, MatchOption}
 use Rattle.std.specs.Option.{option_map}
 use Rattle.std.proofs.lemmas.Bool.{cond-true, eq-eqb, eqb-true}
+use Rattle.std.proofs.lemmas.Option.{none-some, same_Some}
 use Rattle.grammar.specs.Numbers.{after}
 
 pub never : {A B : Type 0} (x : A) → ◌≡◌ {A = Option A} None (Some x) → B
-never x e = absurd (let z : ◌≡◌ {A = ℕ} 0 1 = cc in omega arith)
+never x e = absurd (none-some x e)
 
 pub some_moved : {A : Type 0} (P : A → Type 0) (x y : A) → Some x ≡ Some y → P x → P y
-some_moved P x y e h = let same : x ≡ y = cc in subst P same h
+some_moved P x y e h = subst P (same_Some x y e) h
 
 pub after_mark : (mark rest : List ℕ) → after mark (mark ++ rest) ≡ Some rest
 after_mark [] rest = refl
