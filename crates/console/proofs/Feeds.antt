@@ -1,5 +1,5 @@
 -- The first line, and all lines.
-use Rattle.std.proofs.Common.{◌≡◌, ℕ, suc, ◌+◌, ◌<◌, ◌≤◌, Bool, true, false, not, cond, eqb, ltb, ltb-true, ltb-false, List, [], ◌∷◌, ◌++◌, length, get_or, take, drop, min, Some, None, Option, MatchOption, Bor, sym, refl, ap, ◌∙◌, subst, append_assoc, length-append, arith}
+use Rattle.std.proofs.Common.{◌≡◌, ℕ, suc, ◌+◌, ◌<◌, ◌≤◌, Bool, true, false, not, cond, eqb, ltb, ltb-true, ltb-false, List, [], ◌∷◌, ◌++◌, length, get_or, take, drop, min, Some, None, Option, MatchOption, Bor, sym, refl, ap, ◌∙◌, subst, append_assoc, length-append, arith, ◌≢◌}
 use Rattle.std.specs.Option.{unwrap_or}
 use Rattle.std.specs.List.{AllWithin, HoldsAt, position_or_len}
 use Rattle.std.proofs.Math.Seq.{take-append_seam, drop-append_seam, get_or-append_seam}
@@ -86,14 +86,19 @@ module _ (text piece more : List ℕ) (i : ℕ) (whole : text ≡ piece ++ more)
       let yes : is_feed (get_or text (length front) 0) ≡ true = ap is_feed last in
       cc
 
-  line_by : (r : Option (Bor (List ℕ))) (own : Bor (List ℕ)) (b : Bool) → ltb (position_or_len is_feed text) (length text) ≡ b → own.now ≡ piece →
-      MatchOption r ((front : List ℕ) → piece ≡ front ++ (10 ∷ []) → ⊥) (λ x. piece ≡ x.now ++ (10 ∷ [])) → (unwrap_or r own).now ≡ first_line text
-  line_by None own true e same h = absurd (h (first_line text) (fed (ltb-true _ _ e)))
-  line_by None own false e same h = same ∙ unfed (ltb-false _ _ e)
-  line_by (Some x) own true e same h = append_cancel_right x.now (first_line text) (10 ∷ []) (sym h ∙ fed (ltb-true _ _ e))
-  line_by (Some x) own false e same h = absurd (no_feed_last x.now (ltb-false _ _ e) h)
+  line_by : (line : List ℕ) (b : Bool) → ltb (position_or_len is_feed text) (length text) ≡ b → ((front : List ℕ) → piece ≡ front ++ (10 ∷ []) → line ≡ front) →
+      (((front : List ℕ) → piece ≢ front ++ (10 ∷ [])) → line ≡ piece) → line ≡ first_line text
+  line_by line true e front own = front (first_line text) (fed (ltb-true _ _ e))
+  line_by line false e front own = own (λ front. no_feed_last front (ltb-false _ _ e)) ∙ unfed (ltb-false _ _ e)
 
   -- the piece without its feed, where it has one
-  pub line_before : (r : Option (Bor (List ℕ))) (own : Bor (List ℕ)) → own.now ≡ piece →
-      MatchOption r ((front : List ℕ) → piece ≡ front ++ (10 ∷ []) → ⊥) (λ x. piece ≡ x.now ++ (10 ∷ [])) → (unwrap_or r own).now ≡ first_line text
-  line_before r own same h = line_by r own (ltb (position_or_len is_feed text) (length text)) refl same h
+  pub line_before : (line : List ℕ) → ((front : List ℕ) → piece ≡ front ++ (10 ∷ []) → line ≡ front) →
+      (((front : List ℕ) → piece ≢ front ++ (10 ∷ [])) → line ≡ piece) → line ≡ first_line text
+  line_before line front own = line_by line (ltb (position_or_len is_feed text) (length text)) refl front own
+
+pub stripped : (own : Bor (List ℕ)) (r : Option (Bor (List ℕ))) →
+    MatchOption r ((front : List ℕ) → own.now ≢ front ++ (10 ∷ [])) (λ x. own.now ≡ x.now ++ (10 ∷ [])) →
+    ((front : List ℕ) → own.now ≡ front ++ (10 ∷ []) → (unwrap_or r own).now ≡ front)
+    × (((front : List ℕ) → own.now ≢ front ++ (10 ∷ [])) → (unwrap_or r own).now ≡ own.now)
+stripped own None h = (λ front e. absurd (h front e), λ none. refl)
+stripped own (Some x) h = (λ front e. append_cancel_right x.now front (10 ∷ []) (sym h ∙ e), λ none. absurd (none x.now h))

@@ -1,8 +1,7 @@
 -- One line more.
-use Rattle.std.proofs.Common.{true, false, min, ◌+◌, ◌<◌, Option, MatchOption, Bor, ◌≡◌, ℕ, ◌≤◌, List, [], ◌∷◌, ◌++◌, length, sym, refl, ap, ◌∙◌, subst, append_assoc}
+use Rattle.std.proofs.Common.{◌≢◌, true, false, min, ◌+◌, ◌<◌, ◌≡◌, ℕ, ◌≤◌, List, [], ◌∷◌, ◌++◌, length, sym, refl, ap, ◌∙◌, subst, append_assoc}
 use Rattle.std.proofs.lemmas.List.{append-nil}
 use Rattle.std.specs.List.{AllWithin, HoldsAt}
-use Rattle.std.specs.Option.{unwrap_or}
 use Rattle.judge.specs.Answers.{Said}
 use Rattle.judge.specs.Cases.{Contents}
 use Rattle.console.specs.Judging.{Judged, Replies, Reached}
@@ -44,13 +43,11 @@ reached_more held between kept texts rest first after bytes more answer reached 
     }
 
 -- the same of the next piece of the text that is left, without its feed
-pub piece_done : (held between kept : Contents) (texts : List (List ℕ)) (text more bytes new : List ℕ) (answer : Said) (i : ℕ) (piece : Bor (List ℕ))
-    (r : Option (Bor (List ℕ))) (line : Bor (List ℕ)) →
-    text ≡ piece.now ++ more → length piece.now ≡ min (i + 1) (length text) →
+pub piece_done : (held between kept : Contents) (texts : List (List ℕ)) (text piece more line bytes new : List ℕ) (answer : Said) (i : ℕ) →
+    text ≡ piece ++ more → length piece ≡ min (i + 1) (length text) →
     AllWithin (λ c. is_feed c ≡ false) text 0 i × (i < length text → HoldsAt (λ c. is_feed c ≡ true) text i) → 1 ≤ length text →
-    MatchOption r ((front : List ℕ) → piece.now ≡ front ++ (10 ∷ []) → ⊥) (λ x. piece.now ≡ x.now ++ (10 ∷ [])) → line ≡ unwrap_or r piece →
-    Reached held texts (lines text) bytes between → Judged between line.now answer kept → new ≡ bytes ++ rendered answer → Reached held texts (lines more) new kept
-piece_done held between kept texts text more bytes new answer i piece r line whole long first some stripped own reached judged joined =
-    reached_more held between kept texts text line.now more bytes new answer reached some
-    (ap (λ x. x.now) own ∙ line_before text piece.now more i whole long first.0 first.1 r piece refl stripped)
-    (more_after text piece.now more i whole long first.0 first.1) judged joined
+    ((front : List ℕ) → piece ≡ front ++ (10 ∷ []) → line ≡ front) → (((front : List ℕ) → piece ≢ front ++ (10 ∷ [])) → line ≡ piece) →
+    Reached held texts (lines text) bytes between → Judged between line answer kept → new ≡ bytes ++ rendered answer → Reached held texts (lines more) new kept
+piece_done held between kept texts text piece more line bytes new answer i whole long first some front own reached judged joined =
+    reached_more held between kept texts text line more bytes new answer reached some
+    (line_before text piece more i whole long first.0 first.1 line front own) (more_after text piece more i whole long first.0 first.1) judged joined

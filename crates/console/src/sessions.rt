@@ -1,5 +1,5 @@
 // A text of many lines.
-ghost use Rattle.std.specs.Prelude.{MatchResult};
+ghost use Rattle.std.specs.Prelude.{◌≡◌, ◌≢◌, ℕ, List, [], ◌∷◌, ◌++◌, MatchResult};
 ghost use Rattle.console.specs.Judging.{Pushed, Replies, Stopped};
 ghost use Rattle.console.specs.Lines.{lines};
 
@@ -8,6 +8,14 @@ use crate::replies::judge_line;
 use grammar::Tables;
 use judge::Case;
 use std::alloc::{AllocError, Global};
+
+// A line without the feed at its end; the last line of a text may have none.
+fn without_feed(line: &[u8]) -> &[u8]
+    ensures fed { (front : List ℕ) → line.now ≡ front ++ (10 ∷ []) → result.now ≡ front }
+    ensures unfed { ((front : List ℕ) → line.now ≢ front ++ (10 ∷ [])) → result.now ≡ line.now }
+{
+    line.strip_suffix(b"\n").unwrap_or(line)
+}
 
 // Has the case do what the line asks, and adds the reply.
 fn push_reply(
@@ -30,8 +38,7 @@ pub fn session(heap: Global, case: &mut Case, text: &[u8]) -> Result<Vec<u8>, Al
     let mut replies = Vec::new(heap);
     let mut tables = Tables::new();
     for line in text.split_inclusive(|byte| *byte == b'\n') {
-        let line = line.strip_suffix(b"\n").unwrap_or(line);
-        push_reply(&mut replies, line, case, &mut tables)?;
+        push_reply(&mut replies, without_feed(line), case, &mut tables)?;
     }
     Ok(replies)
 }

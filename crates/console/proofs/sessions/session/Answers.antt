@@ -1,9 +1,7 @@
-use Rattle.std.proofs.Common.{[], ◌∷◌, ◌++◌, rules, vec_items, refl}
+use Rattle.std.proofs.Common.{◌++◌, rules, vec_items, refl}
 use Rattle.std.specs.Slice.Iter.{split_inclusive_rest}
-use Rattle.std.proofs.lemmas.Bool.Decides.{Decides-eqb}
 use Rattle.std.proofs.lemmas.List.Sorted.{answers_always}
 use Rattle.std.proofs.lemmas.Result.{MatchResult-from_err}
-use Rattle.std.proofs.lemmas.Slice.Eq.{strip_suffix_is}
 use Rattle.console.specs.Lines.{lines}
 use Rattle.console.specs.Rendering.{rendered}
 use Rattle.console.proofs.Feeds.{is_feed}
@@ -17,8 +15,8 @@ loop-line-preserved c =
     record {
       can = search rules;
       reached =
-          piece_done _ _ _ _ _ _ _ _ pushed.answer step.1.0 c.in-Some.line c.strip_suffix.result c.unwrap_or-line.result step.0 step.1.1 first.1 step.2
-          (strip_suffix_is Decides-eqb _ (10 ∷ []) _ c.strip_suffix.ensures.cases) c.unwrap_or-line.ensures c.loop-line.invariant.reached pushed.judged pushed.items;
+          piece_done _ _ _ _ _ c.in-Some.line.now _ _ _ _ pushed.answer step.1.0 step.0 step.1.1 first.1 step.2
+          c.without_feed.ensures.fed c.without_feed.ensures.unfed c.loop-line.invariant.reached pushed.judged pushed.items;
     }
 
 pub returns-in_err-push_reply : goal.returns-in_err-push_reply
@@ -27,6 +25,6 @@ returns-in_err-push_reply c =
     let first = step.1.2 is_feed (answers_always _ _ _ (λ f a r g h. search rules)) in
     let more = split_inclusive_rest c.next.new.self in let bytes = vec_items c.loop-line.replies ++ rendered pushed.answer in
     let reached =
-    piece_done _ _ _ _ _ more _ bytes pushed.answer step.1.0 c.in-Some.line c.strip_suffix.result c.unwrap_or-line.result step.0 step.1.1 first.1 step.2
-    (strip_suffix_is Decides-eqb _ (10 ∷ []) _ c.strip_suffix.ensures.cases) c.unwrap_or-line.ensures c.loop-line.invariant.reached pushed.judged refl in
+    piece_done _ _ _ _ _ c.in-Some.line.now more _ _ bytes pushed.answer step.1.0 step.0 step.1.1 first.1 step.2
+    c.without_feed.ensures.fed c.without_feed.ensures.unfed c.loop-line.invariant.reached pushed.judged refl in
     MatchResult-from_err c.from_residual.result _ _ c.from_residual.ensures.0 (λ _. (lines more, (bytes, reached)))
