@@ -5,7 +5,7 @@ ghost use Rattle.price.specs.CyclesLaws.{cycles_laws};
 use crate::prices::Price;
 use crate::tariffs::Tariff;
 
-#[derive(Clone, Copy)]
+#[derive(Clone, Copy, Debug, PartialEq, Eq)]
 pub struct CyclesFirst;
 
 impl Tariff for CyclesFirst {
@@ -16,11 +16,7 @@ impl Tariff for CyclesFirst {
     ghost laws = { λ t. cycles_laws };
 
     fn compare(&self, a: Price, b: Price) -> bool {
-        if a.cycles() == b.cycles() {
-            a.reads() <= b.reads()
-        } else {
-            a.cycles() < b.cycles()
-        }
+        (a.cycles(), a.reads()) <= (b.cycles(), b.reads())
     }
 
     fn unit(&self) -> Price {

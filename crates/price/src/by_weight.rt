@@ -12,7 +12,7 @@ use crate::tariffs::Tariff;
 const MAX_WEIGHT: u32 = 255;
 
 /// Compares cycles + weight × reads.
-#[derive(Clone, Copy)]
+#[derive(Clone, Copy, Debug, PartialEq, Eq)]
 pub struct Weighted {
     weight: u32,
     ghost weight_fits: { weight ≤ 255 },
@@ -35,7 +35,7 @@ impl Weighted {
         ensures value { result ≡ pos self.weight *ℤ p.reads }
         ensures small { Within (2 ^ 60) result }
     {
-        self.weight as i64 * p.reads()
+        i64::from(self.weight) * p.reads()
     }
 
     /// What the tariff compares: cycles + weight × reads.

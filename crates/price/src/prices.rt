@@ -8,7 +8,7 @@ use crate::refusals::Refusal;
 const MAX_PART: i64 = 4_503_599_627_370_496;
 
 /// Cycles and reads of the shared bus, each from -2^52 to 2^52, ends included.
-#[derive(Clone, Copy)]
+#[derive(Clone, Copy, Debug, PartialEq, Eq)]
 pub struct Price {
     cycles: i64,
     reads: i64,
@@ -19,7 +19,7 @@ pub struct Price {
 fn is_part(z: i64) -> bool
     ensures { T result ↔ Part z }
 {
-    -MAX_PART <= z && z <= MAX_PART
+    (-MAX_PART..=MAX_PART).contains(&z)
 }
 
 impl Price {

@@ -4,7 +4,7 @@ ghost use Rattle.price.specs.Refusals.{refusal_numbers};
 
 /// The question that a call failed, named by what is wrong, with the places that it names.
 /// docs/RULES.md has each question.
-#[derive(Clone, Copy)]
+#[derive(Clone, Copy, Debug, PartialEq, Eq)]
 pub enum Refusal {
     NotDraft,
     EdgesFull,

@@ -11,9 +11,9 @@ few : (t : Weighted) (p : Price) → Within (255 * 2 ^ 52) (pos t.weight *ℤ p.
 few t p = scaled t.weight 255 (2 ^ 52) p.reads t.weight_fits p.reads_fit
 
 -- the product that the code makes is the one that is meant
-product : (c : goal.After-reads) → to_z w64 c.args.self.weight *ℤ to_z w64 (of_z w64 c.reads.result) ≡ pos c.args.self.weight *ℤ c.args.p.reads
+product : (c : goal.After-reads) → to_z w64 (of_z w64 c.from.result) *ℤ to_z w64 (of_z w64 c.reads.result) ≡ pos c.args.self.weight *ℤ c.args.p.reads
 product c =
-    let weight : to_z w64 c.args.self.weight ≡ pos c.args.self.weight = omega (arith, ints) in
+    let weight : to_z w64 (of_z w64 c.from.result) ≡ pos c.args.self.weight = omega (arith, ints) in
     let reads : to_z w64 (of_z w64 c.reads.result) ≡ c.args.p.reads = omega (arith, ints) in
     λ i. weight i *ℤ reads i
 
