@@ -1,5 +1,5 @@
 -- What the laws of a tariff give, for all tariffs together.
-use Rattle.std.proofs.Common.{ℕ, zero as none, suc, ◌<◌, Bool, T, ◌⊎◌, ◌↔◌, pos, subst₂, inl, inr, ⊎_elim, arith}
+use Rattle.std.proofs.Common.{ℕ, zero as none, suc, ◌<◌, Bool, T, ◌⊎◌, pos, subst₂, inl, inr, ⊎_elim, arith}
 use Rattle.price.specs.Pairs.{Pair, zero, ◌⊕◌, ◌⊖◌, times, sum}
 use Rattle.price.specs.Follows.{Follows}
 use Rattle.price.specs.Laws.{Laws, cheaper}
@@ -16,9 +16,6 @@ module _ {le : Pair → Pair → Bool} {unit : Pair} (laws : Laws le unit) where
 
   pub le_cheaper : (a b c : Pair) → T (le a b) → T (cheaper le b c) → T (cheaper le a c)
   le_cheaper a b c h k = fails (le c a) (λ n. clash (le c b) (laws.trans c a b n h) k)
-
-  pub cheaper_than_le : (a b c : Pair) → T (cheaper le a b) → T (le b c) → T (cheaper le a c)
-  cheaper_than_le a b c h k = fails (le c a) (λ n. clash (le b a) (laws.trans b c a k n) h)
 
   pub le_plus : (a b c : Pair) → T (le a b) → T (le (a ⊕ c) (b ⊕ c))
   le_plus a b c h = laws.add a b c c h (le_refl c)
@@ -41,9 +38,6 @@ module _ {le : Pair → Pair → Bool} {unit : Pair} (laws : Laws le unit) where
   -- a common factor goes, whatever it is: at 0 neither side is cheaper
   pub cheaper_untimes : (n : ℕ) (a b : Pair) → T (cheaper le (times (pos n) a) (times (pos n) b)) → T (cheaper le a b)
   cheaper_untimes n a b h = fails (le b a) (λ k. clash _ (le_times n b a k) h)
-
-  pub unit_step : (a b : Pair) → T (cheaper le a (b ⊕ unit)) ↔ T (le a b)
-  unit_step a b = ((laws.step a b).1, (laws.step a b).0)
 
   -- a leaf's argument: n times p is within a bound that lies below n times one unit more than c
   pub within_bound : (n : ℕ) (p c bound : Pair) → T (le (times (pos n) p) bound) → T (cheaper le bound (times (pos n) (c ⊕ unit))) → T (le p c)

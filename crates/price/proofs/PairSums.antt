@@ -1,17 +1,11 @@
 -- Sums and multiples of pairs, part by part.
-use Rattle.std.proofs.Common.{◌≡◌, ℕ, zero as none, suc, ℤ, pos, ◌+ℤ◌, ◌*ℤ◌, neg_ℤ, sym, ap, ◌∙◌, arith}
+use Rattle.std.proofs.Common.{◌≡◌, ℕ, zero as none, suc, ℤ, pos, ◌+ℤ◌, sym, ap, ◌∙◌, arith}
 use borrow.Author.Differences.{ints}
 use Rattle.price.specs.Pairs.{Pair, zero, ◌⊕◌, ◌⊖◌, times, sum}
-use Rattle.price.specs.Integers.{*ℤ-+ℤ, +ℤ-*ℤ, *ℤ-assoc, negℤ-*ℤ}
+use Rattle.price.specs.Integers.{*ℤ-+ℤ, +ℤ-*ℤ}
 
 pub parts : {a b : Pair} → a.0 ≡ b.0 → a.1 ≡ b.1 → a ≡ b
 parts p q = λ i. (p i, q i)
-
-pub ⊕-comm : (a b : Pair) → a ⊕ b ≡ b ⊕ a
-⊕-comm a b = parts (omega (arith, ints)) (omega (arith, ints))
-
-pub ⊕-assoc : (a b c : Pair) → (a ⊕ b) ⊕ c ≡ a ⊕ (b ⊕ c)
-⊕-assoc a b c = parts (omega (arith, ints)) (omega (arith, ints))
 
 pub ⊕-zero : (a : Pair) → a ⊕ zero ≡ a
 ⊕-zero a = parts (omega (arith, ints)) (omega (arith, ints))
@@ -25,9 +19,6 @@ pub ⊕-cross : (a b c d : Pair) → (a ⊕ b) ⊕ (c ⊕ d) ≡ (a ⊕ c) ⊕ (
 
 pub ⊕-⊖ : (a b : Pair) → (a ⊕ b) ⊕ (zero ⊖ b) ≡ a
 ⊕-⊖ a b = parts (omega (arith, ints)) (omega (arith, ints))
-
-pub ⊖-⊕ : (a b : Pair) → (a ⊖ b) ⊕ b ≡ a
-⊖-⊕ a b = parts (omega (arith, ints)) (omega (arith, ints))
 
 pub no_times : (a : Pair) → times (pos 0) a ≡ zero
 no_times a = parts (omega (arith, ints)) (omega (arith, ints))
@@ -46,13 +37,6 @@ times-⊕ n a b = parts (*ℤ-+ℤ n a.0 b.0) (*ℤ-+ℤ n a.1 b.1)
 
 pub +-times : (m n : ℤ) (a : Pair) → times (m +ℤ n) a ≡ times m a ⊕ times n a
 +-times m n a = parts (+ℤ-*ℤ m n a.0) (+ℤ-*ℤ m n a.1)
-
-pub times_times : (m n : ℤ) (a : Pair) → times m (times n a) ≡ times (m *ℤ n) a
-times_times m n a = parts (*ℤ-assoc m n a.0) (*ℤ-assoc m n a.1)
-
-pub neg_times : (n : ℤ) (a : Pair) → times (neg_ℤ n) a ≡ zero ⊖ times n a
-neg_times n a =
-    parts (omega (arith, ints, negℤ-*ℤ n a.0)) (omega (arith, ints, negℤ-*ℤ n a.1))
 
 pub sum-⊕ : (f g : ℕ → Pair) (n : ℕ) → sum (λ k. f k ⊕ g k) n ≡ sum f n ⊕ sum g n
 sum-⊕ f g none = sym (⊕-zero zero)

@@ -1,5 +1,5 @@
 -- The first number that passes a test, and the only one: what a search answers, and what the answer says.
-use Rattle.std.proofs.Common.{◌≡◌, ℕ, ◌+◌, ◌<◌, ◌≤◌, Bool, true, false, cond, ◌&&◌, ltb, is_some, Some, None, Option, sym, refl, ap, ◌∙◌, ⊎_elim, arith}
+use Rattle.std.proofs.Common.{◌≡◌, ℕ, ◌+◌, ◌<◌, ◌≤◌, Bool, true, false, cond, ◌&&◌, ltb, Some, None, Option, sym, refl, ap, ◌∙◌, ⊎_elim, arith}
 use Rattle.std.proofs.lemmas.Bool.{both_ways, cases_lt, cases_eq, cases_Bool, lt-ltb, le-ltb, ltb-true, ltb-false, and_parts, and_from, and_left, and_right, cond-true, cond-false}
 use Rattle.std.specs.Option.{MatchOption}
 use Rattle.task.specs.Lowest.{lowest, below, first, sole, FirstFrom}
@@ -48,11 +48,6 @@ module _ (p : ℕ → Bool) where
 
         test : second v ≡ true
         test = and_from (p v) (ltb (lowest p n) v) met (lt-ltb (lowest p n) v (omega (arith, lowest_le p n s first_met)))
-
-    -- a search that comes to a second number
-    pub sole_more : (only : Option ℕ) (m : ℕ) → Sofar p m only → true ≡ is_some only → m < n → p m ≡ true → None ≡ sole p n
-    sole_more None m so some low met = absurd (both_ways false refl (sym some))
-    sole_more (Some s) m so some low met = sole_two s m so.0 low so.1 met
 
     no_second : ((v : ℕ) → v < n → p v ≡ true → v ≤ lowest p n) → sole p n ≡ first p n
     no_second all = cond-false (ltb (lowest second n) n) None (first p n) (le-ltb (lowest second n) n (lowest_none second n miss))

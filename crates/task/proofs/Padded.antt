@@ -1,23 +1,9 @@
 -- A list of coefficients with zeros after it.
-use Rattle.std.proofs.Common.{◌≡◌, ℕ, zero, suc, ◌+◌, ◌-◌, ◌<◌, ◌≤◌, true, List, [], ◌∷◌, ◌++◌, length, get_or, set, replicate, ℤ, pos, refl, ap, ◌∙◌, subst, zero-add, arith}
-use lib.Seq.{paste}
-use Rattle.std.proofs.lemmas.List.Edits.{paste_more, paste_all}
-use Rattle.std.proofs.lemmas.List.{drop-replicate, length-append, length-replicate}
+use Rattle.std.proofs.Common.{◌≡◌, ℕ, zero, suc, ◌-◌, ◌≤◌, true, List, [], ◌∷◌, ◌++◌, length, replicate, ℤ, pos, refl, ◌∙◌, arith}
+use Rattle.std.proofs.lemmas.List.{length-append, length-replicate}
 use Rattle.std.proofs.lemmas.Bool.{and_from, and_parts}
 use Rattle.task.specs.Coefficients.{in_range, all_small}
 use Rattle.task.specs.NewRows.{padded}
-
--- the first n coefficients, and zeros after them
-abbrev pub copied : List ℤ → ℕ → List ℤ
-copied cs n = paste (replicate 64 (pos 0)) 0 cs n
-
-pub copied_more : (cs : List ℤ) (n : ℕ) → length cs ≤ 64 → n < length cs → set (copied cs n) n (get_or cs n (pos 0)) ≡ copied cs (n + 1)
-copied_more cs n few low =
-    subst (λ m. set (copied cs n) m (get_or cs n (pos 0)) ≡ copied cs (n + 1)) (zero-add n)
-    (paste_more (replicate 64 (pos 0)) 0 cs n (pos 0) (omega (arith, length-replicate 64 (pos 0))) low)
-
-pub copied_all : (cs : List ℤ) → copied cs (length cs) ≡ padded cs
-copied_all cs = paste_all (replicate 64 (pos 0)) 0 cs (length cs) refl ∙ ap (λ rest. cs ++ rest) (simp zero-add (drop-replicate (length cs) 64 (pos 0)))
 
 pub length_padded : (cs : List ℤ) → length cs ≤ 64 → length (padded cs) ≡ 64
 length_padded cs few = length-append cs (replicate (64 - length cs) (pos 0)) ∙ omega (arith, length-replicate (64 - length cs) (pos 0))

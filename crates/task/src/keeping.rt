@@ -43,7 +43,7 @@ impl Row {
 }
 
 impl Flow<'_> {
-    // The row's sum, edge by edge: the coefficient of the edge's block times its turns.
+    // The row's sum, edge by edge: the coefficient of the edge's block times its turns. A `for`, since each product's range bounds the sum.
     fn row_sum(self, row: &Row) -> i128
         ensures { result ≡ row_sum self.entry.edges.now (row_of row.now) self.entry.turns.now }
     {

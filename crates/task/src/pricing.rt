@@ -16,12 +16,14 @@ fn times(part: u16, turns: u32) -> u128
     u128::from(turns) * u128::from(part)
 }
 
-// The cycles and the reads of an edge's turns.
-fn cost(edge: &Edge, turns: u32) -> (u128, u128)
-    ensures value { (result.0 ≡ turns * edge.now.cycles) × (result.1 ≡ turns * edge.now.reads) }
-    ensures small { (result.0 ≤ turns * 2 ^ 16) × (result.1 ≤ turns * 2 ^ 16) }
-{
-    (times(edge.cycles, turns), times(edge.reads, turns))
+impl Edge {
+    // The cycles and the reads of its turns.
+    fn cost(&self, turns: u32) -> (u128, u128)
+        ensures value { (result.0 ≡ turns * self.now.cycles) × (result.1 ≡ turns * self.now.reads) }
+        ensures small { (result.0 ≤ turns * 2 ^ 16) × (result.1 ≤ turns * 2 ^ 16) }
+    {
+        (times(self.cycles, turns), times(self.reads, turns))
+    }
 }
 
 // The price with these parts, refused where one is out of range.
@@ -42,8 +44,9 @@ impl Flow<'_> {
     {
         let mut cycles: u128 = 0;
         let mut reads: u128 = 0;
+        // by index: one pass over both lists adds up both parts
         for x in 0..self.edges.len().min(self.turns.len()) {
-            let (more_cycles, more_reads) = cost(&self.edges[x], self.turns[x]);
+            let (more_cycles, more_reads) = self.edges[x].cost(self.turns[x]);
             cycles += more_cycles;
             reads += more_reads;
         }

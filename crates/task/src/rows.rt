@@ -7,7 +7,7 @@ ghost use Rattle.task.specs.Coefficients.{all_small};
 pub const BLOCKS: usize = 64;
 
 /// How a row's sum is compared with its number k.
-#[derive(Clone, Copy)]
+#[derive(Clone, Copy, Debug, PartialEq, Eq)]
 pub enum Relation {
     Below,
     AtMost,
@@ -15,7 +15,7 @@ pub enum Relation {
 }
 
 /// A relation, a number k from -1,048,576 to 1,048,576 and a coefficient from -1,000 to 1,000 for each block.
-#[derive(Clone, Copy)]
+#[derive(Clone, Copy, Debug, PartialEq, Eq)]
 pub struct Row {
     pub relation: Relation,
     pub k: i32,

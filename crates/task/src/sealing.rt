@@ -63,12 +63,8 @@ fn first_astray(edges: &[Edge], start: u8, end: u8) -> Option<usize>
 fn find_ends(edges: &[Edge]) -> Result<(u8, u8), Refusal>
     ensures { result ≡ ends_answer edges.now }
 {
-    let Some(start) = only_free(edges, Side::Head) else {
-        return Err(Refusal::NotOneStart);
-    };
-    let Some(end) = only_free(edges, Side::Tail) else {
-        return Err(Refusal::NotOneEnd);
-    };
+    let start = only_free(edges, Side::Head).ok_or(Refusal::NotOneStart)?;
+    let end = only_free(edges, Side::Tail).ok_or(Refusal::NotOneEnd)?;
     match first_astray(edges, start, end) {
         Some(node) => Err(Refusal::NodeAstray { node }),
         None => Ok((start, end)),

@@ -21,7 +21,7 @@ impl Flow<'_> {
         self.turns.iter().position(|turns| *turns > MAX_TURNS)
     }
 
-    // The turns of the edges that have the node on that side, added up.
+    // The turns of the edges that have the node on that side, added up: a `for`, since each number's range bounds the sum.
     fn turns_at(self, side: Side, node: usize) -> u128
         ensures sum { result ≡ turns_at side node self.entry.edges.now self.entry.turns.now }
         ensures small { result ≤ 2 ^ 32 * 2 ^ 64 }

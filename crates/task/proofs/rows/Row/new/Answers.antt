@@ -1,4 +1,5 @@
 use Rattle.std.proofs.Common.{length, sym, ap, ◌∙◌, arith}
+use Rattle.std.proofs.lemmas.Grind.{common_steps}
 use Rattle.task.specs.Coefficients.{all_small}
 use Rattle.task.proofs.Padded.{length_padded, padded_small}
 use Rattle.task.proofs.rows.Row.new.Goals as goal
@@ -8,3 +9,6 @@ invariant_of-result-clause-every_block c = ap length c.with_zeros.ensures ∙ le
 
 pub invariant_of-result-clause-all_fit : goal.invariant_of-result-clause-all_fit
 invariant_of-result-clause-all_fit c = ap all_small c.with_zeros.ensures ∙ padded_small c.args.coefficients.now (sym c.if-not-are_small.ensures)
+
+pub returns-then-not-contains : goal.returns-then-not-contains
+returns-then-not-contains c = grind (arith, common_steps)

@@ -6,9 +6,7 @@ pub loop-settled-init : goal.loop-settled-init
 loop-settled-init c = rw c.from.ensures (only_goal c.args.self.edges.now c.args.self.turns.now c.args.side c.args.goal (search rules))
 
 pub loop-settled-preserved : goal.loop-settled-preserved
-loop-settled-preserved c =
-    marked_on c.args.self.edges.now c.args.self.turns.now c.args.side c.args.goal c.loop-settled.marks c.spread-settled.new.marks c.loop-settled.settled c.spread-settled.result
-    c.loop-settled.invariant c.spread-settled.ensures
+loop-settled-preserved c = search (rules, marked_on)
 
 pub returns : goal.returns
 returns c =

@@ -1,4 +1,4 @@
-use Rattle.std.proofs.Common.{◌≡◌, ℕ, ◌+◌, drop, ℤ, pos, ◌+ℤ◌, ◌*ℤ◌, sym, ap, ◌∙◌, arith, w32, SFits, rules}
+use Rattle.std.proofs.Common.{ℕ, ◌+◌, drop, ℤ, pos, ◌+ℤ◌, ◌*ℤ◌, sym, ap, ◌∙◌, arith, w32, SFits, rules}
 use borrow.Author.Differences.{ints}
 use Rattle.std.proofs.lemmas.Int.{to_z-of_z}
 use Rattle.task.specs.Graph.{edge_at}
@@ -19,6 +19,5 @@ loop-x-preserved c =
 
 pub returns : goal.returns
 returns c =
-    let none = rest_all (edges_linear (row_of c.args.row.now)) c.args.self.edges.now c.args.self.turns.now c.loop-x.x (omega arith) in
-    let all : c.loop-x.sum ≡ by_edges (row_of c.args.row.now) c.args.self.edges.now c.args.self.turns.now = omega (arith, ints, none, c.loop-x.invariant.0) in
-    c.loop-x.sum-is ∙ all ∙ sym (row_by_edges (row_of c.args.row.now) c.args.self.edges.now c.args.self.turns.now)
+    let row = row_of c.args.row.now in
+    grind (arith, ints, rest_all (edges_linear row) c.args.self.edges.now c.args.self.turns.now c.loop-x.x, row_by_edges row c.args.self.edges.now c.args.self.turns.now)
