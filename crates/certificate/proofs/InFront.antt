@@ -1,6 +1,5 @@
 -- The record that was read, as the judge stands before it.
-use Rattle.std.proofs.Common.{◌≡◌, ℕ, ◌+◌, Bool, List, map, length, take, ℤ, nat_abs, Some, None, Ok, Option, sym, ap, ◌∙◌, subst, arith}
-use Rattle.std.proofs.lemmas.List.{length-map, length-take-le}
+use Rattle.std.proofs.Common.{◌≡◌, ℕ, ◌+◌, Bool, List, map, length, ℤ, nat_abs, Some, None, Ok, Option, sym, ap, ◌∙◌, subst}
 use Rattle.price.specs.Pairs.{Pair}
 use Rattle.certificate.specs.declared.reading.Record.{Record}
 use Rattle.certificate.specs.declared.branches.Path.{Path}
@@ -15,28 +14,19 @@ use Rattle.certificate.specs.Trees.{TreeRecord}
 use Rattle.certificate.specs.Verdicts.{leaf_answer}
 use Rattle.certificate.proofs.Ahead.{Standing, At, next, over}
 
-same_depth : (path : Path) → length (branches_of path) ≡ path.depth
-same_depth path =
-    let deep = path.deep in
-    let room = path.room in
-    length-map (take path.depth path.branches) branch_of ∙ length-take-le path.depth path.branches (omega arith)
-
 module _ {nodes rows : ℕ} {le : Pair → Pair → Bool} {unit : Pair} {task : Task} {c : Pair} {whole : ℕ} {all : Answer} {n : ℕ} {xs : List ℤ} (path : Path)
     (so : Standing nodes rows le unit task c whole all (branches_of path) n xs) where
-  depth : first_record nodes (rows + length (branches_of path)) xs ≡ first_record nodes (rows + path.depth) xs
-  depth = ap (λ (k : ℕ). first_record nodes (rows + k) xs) (same_depth path)
-
   -- the record is read with these numbers of nodes and rows
-  module _ {m k : ℕ} (p : m ≡ nodes) (q : k ≡ rows + path.depth) where
-    whole_shape : first_record m k xs ≡ first_record nodes (rows + path.depth) xs
+  module _ {m k : ℕ} (p : m ≡ nodes) (q : k ≡ rows + length (branches_of path)) where
+    whole_shape : first_record m k xs ≡ first_record nodes (rows + length (branches_of path)) xs
     whole_shape = λ i. first_record (p i) (q i) xs
 
     pub at_record : (r : Record) (v : TreeRecord) (ys : List ℤ) → ◌≡◌ {A = Option (TreeRecord × List ℤ)} (Some (held r, ys)) (first_record m k xs) → held r ≡ v →
         At nodes rows le unit task c whole all (branches_of path) n xs (v, ys)
-    at_record r v ys h e = next nodes rows le unit task c whole all (branches_of path) n xs so (v, ys) (depth ∙ sym (h ∙ whole_shape) ∙ ap (λ z. Some (z, ys)) e)
+    at_record r v ys h e = next nodes rows le unit task c whole all (branches_of path) n xs so (v, ys) (sym (h ∙ whole_shape) ∙ ap (λ z. Some (z, ys)) e)
 
     pub at_end : ◌≡◌ {A = Option (TreeRecord × List ℤ)} None (first_record m k xs) → ◌≡◌ {A = Answer} (Ok tt) all
-    at_end h = over nodes rows le unit task c whole all (branches_of path) n xs so (depth ∙ sym (h ∙ whole_shape))
+    at_end h = over nodes rows le unit task c whole all (branches_of path) n xs so (sym (h ∙ whole_shape))
 
 -- the same splits, told otherwise
 pub moved : {nodes rows : ℕ} {le : Pair → Pair → Bool} {unit : Pair} {task : Task} {c : Pair} {whole : ℕ} {all : Answer} {n : ℕ} {xs : List ℤ} (ts us : List splits.Branch) → ts ≡ us →
@@ -45,7 +35,7 @@ moved {nodes} {rows} {le} {unit} {task} {c} {whole} {all} {n} {xs} ts us e so = 
 
 -- the leaf that was judged is the one that was read
 pub leaf_same : (le : Pair → Pair → Bool) (unit : Pair) (task : Task) (c : Pair) (path : Path) (slice : List Branch) (n s : ℕ) (d : ℤ) (ps ms : List ℤ) →
-    slice ≡ take path.depth path.branches → s ≡ nat_abs d →
+    slice ≡ path.branches.items → s ≡ nat_abs d →
     leaf_answer le unit task c (lines_at task (branches_of path)) (leaf_of d ps ms) n
     ≡ leaf_answer le unit task c (lines_at task (map branch_of slice)) (record { scale = s; potentials = pairs ps; multipliers = pairs ms }) n
 leaf_same le unit task c path slice n s d ps ms e q =

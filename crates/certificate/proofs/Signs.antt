@@ -7,9 +7,10 @@ use Rattle.task.specs.declared.rows.Relation.TheVariants.{Below, AtMost, Equal}
 use Rattle.task.specs.declared.rows.Row.{Row}
 use Rattle.task.specs.NewRows.{row_of}
 use Rattle.certificate.specs.declared.branches.Branch.{Branch}
+use Rattle.certificate.specs.declared.branches.Branch.TheVariants as branch
 use Rattle.certificate.specs.Held.{is_equal, equal_at}
 use Rattle.certificate.specs.LeafTests.{sign_ok}
-use Rattle.certificate.specs.Lines.{at_most, at_least, case_line, no_line}
+use Rattle.certificate.specs.Lines.{case_line, no_line}
 use Rattle.certificate.specs.Splits.{path_line, branch_of}
 
 pub equal_is : (rows : List Row) (i : ℕ) (r : Row) → i < length rows → equal_at rows i ≡ is_equal (get_or rows i r).relation
@@ -33,14 +34,11 @@ module _ (le : Pair → Pair → Bool) (es : List Edge) (m : Pair) where
   of_relation AtMost = refl
   of_relation Equal = refl
 
-  of_turn : (b : Bool) (e n : ℕ) → sign_ok le (cond b (at_least e n) (at_most e n)).relation m ≡ le zero m
-  of_turn true e n = refl
-  of_turn false e n = refl
-
   pub sign_of : (rows : List Row) (path : List Branch) (i : ℕ) →
       sign_ok le (get_or (map (case_line es) (map row_of rows) ++ map path_line (map branch_of path)) i no_line).relation m ≡ cond (equal_at rows i) true (le zero m)
   sign_of [] [] i = refl
-  sign_of [] (t ∷ ts) none = of_turn t.second t.edge t.most
+  sign_of [] (branch.AtMost e n ∷ ts) none = refl
+  sign_of [] (branch.MoreThan e n ∷ ts) none = refl
   sign_of [] (t ∷ ts) (suc i) = sign_of [] ts i
   sign_of (r ∷ rs) ts none = of_relation r.relation
   sign_of (r ∷ rs) ts (suc i) = sign_of rs ts i

@@ -1,7 +1,8 @@
 -- The splits on the path from the root to a leaf. To compute with.
-use Rattle.std.specs.Prelude.{ℕ, Bool, true, false, cond, not, ◌||◌, List, [], ◌∷◌, ◌++◌, map, take}
+use Rattle.std.specs.Prelude.{ℕ, Bool, true, false, cond, not, ◌||◌, List, [], ◌∷◌, ◌++◌, map}
 use Rattle.certificate.specs.declared.branches.Path.{Path}
 use Rattle.certificate.specs.declared.branches.Branch as declared
+use Rattle.certificate.specs.declared.branches.Branch.TheVariants.{AtMost, MoreThan}
 use Rattle.certificate.specs.Lines.{Line, case_lines, at_most, at_least}
 use Rattle.certificate.specs.Tasks.{Task}
 
@@ -33,9 +34,10 @@ abbrev pub onward : List Branch → List Branch
 onward [] = []
 onward (t ∷ ts) = cond (unfinished ts) (t ∷ onward ts) (cond t.second [] (second_of t.edge t.m ∷ []))
 
--- what the structs of the code mean
+-- what the types of the code mean
 abbrev pub branch_of : declared.Branch → Branch
-branch_of t = record { edge = t.edge; m = t.most; second = t.second }
+branch_of (AtMost edge turns) = first_of edge turns.count
+branch_of (MoreThan edge turns) = second_of edge turns.count
 
 abbrev pub branches_of : Path → List Branch
-branches_of p = map branch_of (take p.depth p.branches)
+branches_of p = map branch_of p.branches.items

@@ -1,23 +1,39 @@
 // The branches on the path from the root to a leaf: one for each split above it.
-ghost use Rattle.std.specs.Prelude.{◌≡◌, ◌≤◌, length};
+ghost use Rattle.std.specs.Prelude.{◌≤◌};
+ghost use Rattle.arrayvec.specs.ArrayVec.{array_vec_len};
+
+use arrayvec::ArrayVec;
 
 // No leaf stands under more splits than this.
 pub(crate) const MAX_SPLITS: usize = 12;
 
-// The row "turns of the edge at most `most`", or in the second tree "at least `most` + 1".
+// As many turns as a split may name.
 #[derive(Clone, Copy)]
-pub(crate) struct Branch {
-    pub(crate) edge: usize,
-    pub(crate) most: u32,
-    pub(crate) second: bool,
-    ghost few: { most ≤ 1048575 },
+pub(crate) struct Turns {
+    pub(crate) count: u32,
+    ghost few: { count ≤ 1048575 },
 }
 
-// The path table: the first `depth` branches, root first.
+// The row that a branch adds: at most so many turns of an edge in the first tree of a split, more of them in the second.
+#[derive(Clone, Copy)]
+pub(crate) enum Branch {
+    AtMost { edge: usize, turns: Turns },
+    MoreThan { edge: usize, turns: Turns },
+}
+
+// What stands in the unused places of a path table.
+impl Default for Branch {
+    fn default() -> Branch {
+        Branch::AtMost {
+            edge: 0,
+            turns: Turns { count: 0 },
+        }
+    }
+}
+
+// The path table: the branches above what is read next, root first.
 #[derive(Drop)]
 pub(crate) struct Path {
-    pub(crate) branches: [Branch; MAX_SPLITS],
-    pub(crate) depth: usize,
-    ghost room: { length branches ≡ 12 },
-    ghost deep: { depth ≤ 12 },
+    pub(crate) branches: ArrayVec<Branch, MAX_SPLITS>,
+    ghost deep: { array_vec_len branches ≤ 12 },
 }

@@ -1,59 +1,48 @@
 // How the path table goes from record to record.
-ghost use Rattle.std.specs.Prelude.{◌≡◌, ◌<◌, ◌≤◌, [], ◌∷◌, ◌++◌, length, take};
+ghost use Rattle.std.specs.Prelude.{◌≡◌, ◌<◌, ◌≤◌, [], ◌∷◌, ◌++◌, length};
 ghost use Rattle.certificate.specs.Splits.{first_of, onward as onward', branches_of};
 
-use crate::branches::{Branch, MAX_SPLITS, Path};
+use crate::branches::{Branch, Path, Turns};
+use arrayvec::ArrayVec;
 
 impl Path {
     pub(crate) fn new() -> Path
         ensures { branches_of result ≡ [] }
     {
-        let none = Branch {
-            edge: 0,
-            most: 0,
-            second: false,
-        };
         Path {
-            branches: [none; MAX_SPLITS],
-            depth: 0,
+            branches: ArrayVec::new(),
         }
     }
 
     pub(crate) fn branches(&self) -> &[Branch]
-        ensures value { result.now ≡ take self.now.depth self.now.branches }
+        ensures value { result.now ≡ self.now.branches.items }
         ensures few { length result.now ≤ 12 }
     {
-        &self.branches[0..self.depth]
+        self.branches.as_slice()
+    }
+
+    // How many splits stand above what is read next.
+    pub(crate) fn depth(&self) -> usize
+        ensures { result ≡ length (branches_of self.now) }
+    {
+        self.branches.len()
     }
 
     // Goes into the first tree of a split.
-    pub(crate) fn push(&mut self, edge: usize, most: u32)
-        requires few { most ≤ 1048575 }
-        requires room { length (branches_of self.old) < 12 }
-        ensures { branches_of self.new ≡ branches_of self.old ++ first_of edge most ∷ [] }
+    pub(crate) fn push(&mut self, edge: usize, turns: Turns)
+        requires { length (branches_of self.old) < 12 }
+        ensures { branches_of self.new ≡ branches_of self.old ++ first_of edge turns.count ∷ [] }
     {
-        self.branches[self.depth] = Branch {
-            edge,
-            most,
-            second: false,
-        };
-        self.depth += 1;
+        self.branches.push(Branch::AtMost { edge, turns });
     }
 
     // Behind a leaf, the last split in its first tree goes on to its second; those below it are done.
     pub(crate) fn onward(&mut self)
         ensures { branches_of self.new ≡ onward' (branches_of self.old) }
     {
-        while self.depth > 0 {
-            let last = self.branches[self.depth - 1];
-            if last.second {
-                self.depth -= 1;
-            } else {
-                self.branches[self.depth - 1] = Branch {
-                    edge: last.edge,
-                    most: last.most,
-                    second: true,
-                };
+        while let Some(last) = self.branches.pop() {
+            if let Branch::AtMost { edge, turns } = last {
+                self.branches.push(Branch::MoreThan { edge, turns });
                 return;
             }
         }

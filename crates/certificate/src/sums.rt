@@ -35,53 +35,43 @@ fn pair_at(list: &[i32], i: usize) -> Price
 }
 
 // The entry of a row of the task.
-fn row_entry(row: &Row, column: Column) -> i32
+fn row_entry(row: &Row, column: Column) -> i64
     ensures value { result ≡ row_entry column (row_of row.now) }
     ensures small { Within 1048577 result }
 {
     match column {
-        Column::Edge { block, .. } => number(&row.coefficients, usize::from(block)),
+        Column::Edge { block, .. } => i64::from(number(&row.coefficients, usize::from(block))),
         Column::Limit => match row.relation {
-            Relation::Below => row.k - 1,
-            Relation::AtMost | Relation::Equal => row.k,
+            Relation::Below => i64::from(row.k) - 1,
+            Relation::AtMost | Relation::Equal => i64::from(row.k),
         },
     }
 }
 
 impl Branch {
     // The entry of a row of the path.
-    fn entry(self, column: Column) -> i32
+    fn entry(self, column: Column) -> i64
         ensures value { result ≡ branch_entry column (branch_of self) }
         ensures small { Within 1048577 result }
     {
-        match column {
-            Column::Edge { number, .. } => {
-                if number != self.edge {
-                    0
-                } else if self.second {
-                    -1
-                } else {
-                    1
-                }
-            }
-            Column::Limit => {
-                if self.second {
-                    -1 - self.most as i32
-                } else {
-                    self.most as i32
-                }
-            }
+        match (self, column) {
+            (Branch::AtMost { edge, .. }, Column::Edge { number, .. }) => i64::from(number == edge),
+            (Branch::MoreThan { edge, .. }, Column::Edge { number, .. }) => -i64::from(
+                number == edge,
+            ),
+            (Branch::AtMost { turns, .. }, Column::Limit) => i64::from(turns.count),
+            (Branch::MoreThan { turns, .. }, Column::Limit) => -1 - i64::from(turns.count),
         }
     }
 }
 
 // An entry times a part of its multiplier.
-fn product(entry: i32, part: i64) -> i64
+fn product(entry: i64, part: i64) -> i64
     requires { (Within 1048577 entry) × (Within 67108864 part) }
     ensures value { result ≡ entry *ℤ part }
     ensures small { Within 70368811286528 result }
 {
-    i64::from(entry) * part
+    entry * part
 }
 
 impl Leaf<'_> {
@@ -107,7 +97,7 @@ impl Leaf<'_> {
         self.claim.task.rows.len() + self.path.len()
     }
 
-    fn entry(&self, column: Column, row: usize) -> i32
+    fn entry(&self, column: Column, row: usize) -> i64
         requires { row < length self.now.claim.task.rows.now + length self.now.path.now }
         ensures value { result ≡ slice_index_or (entries column self.now.claim.task.rows.now self.now.path.now) row (pos 0) }
         ensures small { Within 1048577 result }

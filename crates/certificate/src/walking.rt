@@ -7,7 +7,7 @@ ghost use Rattle.certificate.specs.Verdicts.{tree_answer};
 ghost use Rattle.price.specs.Prices.{pair};
 ghost use Rattle.task.specs.Sides.{node_count};
 
-use crate::branches::Path;
+use crate::branches::{Path, Turns};
 use crate::cases::Leaf;
 use crate::claims::Claim;
 use crate::reading::{Record, read_record};
@@ -26,10 +26,13 @@ pub(crate) fn judge_list<T: Tariff>(
     let mut path = Path::new();
     let mut rest = list;
     let mut count = 0;
-    while let Some((record, next)) = read_record(rest, shape.under(path.depth)) {
+    while let Some((record, next)) = read_record(rest, shape.under(path.depth())) {
         match record {
             Record::Split { edge, most } => {
-                path.push(edge.unsigned_abs() as usize, most.unsigned_abs());
+                let turns = Turns {
+                    count: most.unsigned_abs(),
+                };
+                path.push(edge.unsigned_abs() as usize, turns);
             }
             Record::Leaf {
                 scale,

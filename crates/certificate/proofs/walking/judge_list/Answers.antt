@@ -1,4 +1,4 @@
-use Rattle.std.proofs.Common.{◌≡◌, ℕ, ◌+◌, [], ◌∷◌, ◌++◌, length, nat_abs, Err, sym, ap, ◌∙◌, w32, SFits, rules}
+use Rattle.std.proofs.Common.{◌≡◌, ◌+◌, [], ◌∷◌, ◌++◌, length, nat_abs, Err, sym, ap, ◌∙◌, w32, SFits, rules}
 use Rattle.price.specs.Prices.{pair}
 use Rattle.std.proofs.lemmas.Result.{err_from_is_err_and}
 use Rattle.std.proofs.lemmas.Int.{to_z-of_z}
@@ -21,15 +21,21 @@ loop-record-init g c =
 
 pub push-requires : goal.push-requires
 push-requires g c =
-    let f : SFits w32 c.in-Split.most = search rules in
-    let at = at_record c.loop-record.path c.loop-record.invariant.1 (c.under.ensures.0 ∙ c.shape-shape.ensures.nodes) (c.under.ensures.1 ∙ ap (λ (k : ℕ). k + c.loop-record.path.depth) c.shape-shape.ensures.rows) c.in-Some.record (split_record c.in-Split.edge c.in-Split.most) c.in-Some.next.now
+    let at = at_record c.loop-record.path c.loop-record.invariant.1 (c.under.ensures.0 ∙ c.shape-shape.ensures.nodes) (c.under.ensures.1 ∙ (λ i. c.shape-shape.ensures.rows i + c.depth.ensures i)) c.in-Some.record (split_record c.in-Split.edge c.in-Split.most) c.in-Some.next.now
     c.in-Some.ensures (ap held c.in-Split.is) in
-    record { few = simp (simp to_z-of_z at c.unsigned_abs-in-Split.ensures.value) at.few; room = at.room }
+    at.room
+
+pub invariant_of-turns : goal.invariant_of-turns
+invariant_of-turns g c =
+    let f : SFits w32 c.in-Split.most = search rules in
+    let at = at_record c.loop-record.path c.loop-record.invariant.1 (c.under.ensures.0 ∙ c.shape-shape.ensures.nodes) (c.under.ensures.1 ∙ (λ i. c.shape-shape.ensures.rows i + c.depth.ensures i)) c.in-Some.record (split_record c.in-Split.edge c.in-Split.most) c.in-Some.next.now
+    c.in-Some.ensures (ap held c.in-Split.is) in
+    record { few = simp (simp to_z-of_z at c.unsigned_abs.ensures.value) at.few }
 
 pub invariant_of-leaf : goal.invariant_of-leaf
 invariant_of-leaf g c =
     let f : SFits w32 c.in-Leaf.scale = search rules in
-    let at = at_record c.loop-record.path c.loop-record.invariant.1 (c.under.ensures.0 ∙ c.shape-shape.ensures.nodes) (c.under.ensures.1 ∙ ap (λ (k : ℕ). k + c.loop-record.path.depth) c.shape-shape.ensures.rows) c.in-Some.record
+    let at = at_record c.loop-record.path c.loop-record.invariant.1 (c.under.ensures.0 ∙ c.shape-shape.ensures.nodes) (c.under.ensures.1 ∙ (λ i. c.shape-shape.ensures.rows i + c.depth.ensures i)) c.in-Some.record
     (leaf_record c.in-Leaf.scale c.in-Leaf.potentials.now c.in-Leaf.multipliers.now) c.in-Some.next.now
     c.in-Some.ensures (ap held c.in-Leaf.is) in
     record {
@@ -41,7 +47,7 @@ invariant_of-leaf g c =
 
 pub returns-in_err-judge-in-Leaf : goal.returns-in_err-judge-in-Leaf
 returns-in_err-judge-in-Leaf g c t fits is =
-    let at = at_record c.loop-record.path c.loop-record.invariant.1 (c.under.ensures.0 ∙ c.shape-shape.ensures.nodes) (c.under.ensures.1 ∙ ap (λ (k : ℕ). k + c.loop-record.path.depth) c.shape-shape.ensures.rows) c.in-Some.record
+    let at = at_record c.loop-record.path c.loop-record.invariant.1 (c.under.ensures.0 ∙ c.shape-shape.ensures.nodes) (c.under.ensures.1 ∙ (λ i. c.shape-shape.ensures.rows i + c.depth.ensures i)) c.in-Some.record
     (leaf_record c.in-Leaf.scale c.in-Leaf.potentials.now c.in-Leaf.multipliers.now) c.in-Some.next.now
     c.in-Some.ensures (ap held c.in-Leaf.is) in
     let f : SFits w32 c.in-Leaf.scale = search rules in
@@ -58,21 +64,21 @@ pub loop-record-preserved-in-Split : goal.loop-record-preserved-in-Split
 loop-record-preserved-in-Split g c =
     let f : SFits w32 c.in-Split.most = search rules in
     let e : SFits w32 c.in-Split.edge = search rules in
-    let at = at_record c.loop-record.path c.loop-record.invariant.1 (c.under.ensures.0 ∙ c.shape-shape.ensures.nodes) (c.under.ensures.1 ∙ ap (λ (k : ℕ). k + c.loop-record.path.depth) c.shape-shape.ensures.rows) c.in-Some.record (split_record c.in-Split.edge c.in-Split.most) c.in-Some.next.now
+    let at = at_record c.loop-record.path c.loop-record.invariant.1 (c.under.ensures.0 ∙ c.shape-shape.ensures.nodes) (c.under.ensures.1 ∙ (λ i. c.shape-shape.ensures.rows i + c.depth.ensures i)) c.in-Some.record (split_record c.in-Split.edge c.in-Split.most) c.in-Some.next.now
     c.in-Some.ensures (ap held c.in-Split.is) in
-    let a : c.unsigned_abs.result ≡ nat_abs c.in-Split.edge = simp to_z-of_z at c.unsigned_abs.ensures.value in
-    let b : c.unsigned_abs-in-Split.result ≡ nat_abs c.in-Split.most = simp to_z-of_z at c.unsigned_abs-in-Split.ensures.value in
+    let a : c.unsigned_abs-in-Split.result ≡ nat_abs c.in-Split.edge = simp to_z-of_z at c.unsigned_abs-in-Split.ensures.value in
+    let b : c.unsigned_abs.result ≡ nat_abs c.in-Split.most = simp to_z-of_z at c.unsigned_abs.ensures.value in
     (c.loop-record.invariant.0, moved _ (branches_of c.push.new.self) (sym (c.push.ensures ∙ (λ i. branches_of c.loop-record.path ++ (first_of (a i) (b i) ∷ [])))) at.passed)
 
 pub loop-record-smaller : goal.loop-record-smaller
 loop-record-smaller g c =
-    (at_record c.loop-record.path c.loop-record.invariant.1 (c.under.ensures.0 ∙ c.shape-shape.ensures.nodes) (c.under.ensures.1 ∙ ap (λ (k : ℕ). k + c.loop-record.path.depth) c.shape-shape.ensures.rows) c.in-Some.record
+    (at_record c.loop-record.path c.loop-record.invariant.1 (c.under.ensures.0 ∙ c.shape-shape.ensures.nodes) (c.under.ensures.1 ∙ (λ i. c.shape-shape.ensures.rows i + c.depth.ensures i)) c.in-Some.record
     (leaf_record c.in-Leaf.scale c.in-Leaf.potentials.now c.in-Leaf.multipliers.now) c.in-Some.next.now
     c.in-Some.ensures (ap held c.in-Leaf.is)).shorter
 
 pub loop-record-preserved : goal.loop-record-preserved
 loop-record-preserved g c =
-    let at = at_record c.loop-record.path c.loop-record.invariant.1 (c.under.ensures.0 ∙ c.shape-shape.ensures.nodes) (c.under.ensures.1 ∙ ap (λ (k : ℕ). k + c.loop-record.path.depth) c.shape-shape.ensures.rows) c.in-Some.record
+    let at = at_record c.loop-record.path c.loop-record.invariant.1 (c.under.ensures.0 ∙ c.shape-shape.ensures.nodes) (c.under.ensures.1 ∙ (λ i. c.shape-shape.ensures.rows i + c.depth.ensures i)) c.in-Some.record
     (leaf_record c.in-Leaf.scale c.in-Leaf.potentials.now c.in-Leaf.multipliers.now) c.in-Some.next.now
     c.in-Some.ensures (ap held c.in-Leaf.is) in
     let f : SFits w32 c.in-Leaf.scale = search rules in
@@ -83,6 +89,6 @@ loop-record-preserved g c =
 
 pub returns : goal.returns
 returns g c t fits is =
-    at_end c.loop-record.path c.loop-record.invariant.1 (c.under.ensures.0 ∙ c.shape-shape.ensures.nodes) (c.under.ensures.1 ∙ ap (λ (k : ℕ). k + c.loop-record.path.depth) c.shape-shape.ensures.rows) c.in_default.ensures
+    at_end c.loop-record.path c.loop-record.invariant.1 (c.under.ensures.0 ∙ c.shape-shape.ensures.nodes) (c.under.ensures.1 ∙ (λ i. c.shape-shape.ensures.rows i + c.depth.ensures i)) c.in_default.ensures
     ∙ ap (tree_answer (g.T.Tariff.le c.args.tariff.now) (g.T.Tariff.unit c.args.tariff.now) (task_of c.args.claim.task) (pair c.args.claim.price))
     (one_spelling 12 (node_count c.args.claim.task.edges.now) (length c.args.claim.task.rows.now) c.loop-record.invariant.0.of t c.args.list.now c.loop-record.invariant.0.fits fits c.loop-record.invariant.0.is is)

@@ -1,19 +1,18 @@
-use Rattle.std.proofs.Common.{◌≡◌, true, false, sym, ap, ◌∙◌, arith}
-use Rattle.certificate.proofs.PathSteps.{drop_second, flip_first}
+use Rattle.std.proofs.Common.{[], ◌∷◌, ◌++◌, map, sym, ap, ◌∙◌}
+use Rattle.std.proofs.lemmas.List.{map-append}
+use Rattle.certificate.specs.Splits.{branch_of}
+use Rattle.certificate.proofs.PathSteps.{from_first, from_second}
 use Rattle.certificate.proofs.branches.Path.onward.Goals as goal
 
-pub returns-else-last : goal.returns-else-last
-returns-else-last c =
-    let x = c.index-self-self.result in
-    let is = c.index-self-self.is in
-    let first : x.second ≡ false = ap (λ t. t.second) is ∙ c.if-last.false in
-    let back = sym is in
-    sym (flip_first c.loop-self.self.branches c.loop-self.self.depth x (omega arith) (omega arith) is _ first (λ i. record { edge = (back i).edge; m = (back i).most; second = true }))
-    ∙ c.loop-self.invariant
+pub returns-in-AtMost : goal.returns-in-AtMost
+returns-in-AtMost c =
+    let left = c.pop.new.self.items in
+    let was = c.in-Some.ensures.items ∙ ap (λ t. left ++ (t ∷ [])) c.in-AtMost.is in
+    ap (map branch_of) c.push.ensures.items ∙ map-append branch_of left _
+    ∙ sym (from_first c.loop-last.self.branches.items left c.in-AtMost.edge c.in-AtMost.turns was) ∙ c.loop-last.invariant
 
-pub loop-self-preserved : goal.loop-self-preserved
-loop-self-preserved c =
-    let x = c.index-self-self.result in
-    let is = c.index-self-self.is in
-    let second : x.second ≡ true = ap (λ t. t.second) is ∙ c.if-last.true in
-    sym (drop_second c.loop-self.self.branches c.loop-self.self.depth x (omega arith) (omega arith) is second) ∙ c.loop-self.invariant
+pub loop-last-preserved : goal.loop-last-preserved
+loop-last-preserved c =
+    let left = c.pop.new.self.items in
+    let was = c.in-Some.ensures.items ∙ ap (λ t. left ++ (t ∷ [])) c.in_default-last.is in
+    sym (from_second c.loop-last.self.branches.items left c.in_default-last.field-0 c.in_default-last.field-1 was) ∙ c.loop-last.invariant

@@ -1,4 +1,4 @@
-use Rattle.std.proofs.Common.{◌+ℤ◌, ◌≡◌, ◌*ℤ◌, ap, ◌∙◌, arith, w32, w64, SFits, rules}
+use Rattle.std.proofs.Common.{◌+ℤ◌, ◌≡◌, ◌*ℤ◌, ap, ◌∙◌, arith, w64, SFits, rules}
 use Rattle.price.proofs.PairSums.{parts}
 use Rattle.price.specs.Prices.{pair}
 use Rattle.std.proofs.lemmas.Int.{ints, to_z-of_z}
@@ -15,7 +15,7 @@ overflow_add-reads c =
 
 pub loop-row-preserved : goal.loop-row-preserved
 loop-row-preserved c =
-    let x : SFits w32 c.entry-entry.result = search rules in
+    let x : SFits w64 c.entry-entry.result = search rules in
     let a : SFits w64 c.cycles.result = search rules in
     let b : SFits w64 c.reads.result = search rules in
     let f : SFits w64 c.product-cycles.result = search rules in
