@@ -5,7 +5,7 @@ ghost use Rattle.certificate.specs.Held.{leaf_held};
 ghost use Rattle.certificate.specs.Lines.{multiplier, pairs, potential};
 ghost use Rattle.certificate.specs.Ready.{Small};
 ghost use Rattle.certificate.specs.Splits.{branch_of};
-ghost use Rattle.price.specs.Pairs.{zero};
+ghost use Rattle.price.specs.Pairs.{times, zero};
 ghost use Rattle.price.specs.Prices.{pair};
 ghost use Rattle.price.specs.Ranges.{Both, Within};
 ghost use Rattle.task.specs.NewRows.{row_of};
@@ -74,6 +74,18 @@ fn product(entry: i64, part: i64) -> i64
     entry * part
 }
 
+// An entry times its multiplier.
+fn charge_of(entry: i64, multiplier: Price) -> Price
+    requires { (Within 1048577 entry) × (Both 67108864 (pair multiplier)) }
+    ensures value { pair result ≡ times entry (pair multiplier) }
+    ensures small { Both 70368811286528 (pair result) }
+{
+    price_of(
+        product(entry, multiplier.cycles()),
+        product(entry, multiplier.reads()),
+    )
+}
+
 impl Leaf<'_> {
     pub(crate) fn potential(&self, node: u8) -> Price
         ensures value { pair result ≡ potential (leaf_held self.now) node }
@@ -97,31 +109,24 @@ impl Leaf<'_> {
         self.claim.task.rows.len() + self.path.len()
     }
 
-    fn entry(&self, column: Column, row: usize) -> i64
-        requires { row < length self.now.claim.task.rows.now + length self.now.path.now }
-        ensures value { result ≡ slice_index_or (entries column self.now.claim.task.rows.now self.now.path.now) row (pos 0) }
-        ensures small { Within 1048577 result }
-    {
-        let rows = self.claim.task.rows;
-        if row < rows.len() {
-            row_entry(&rows[row], column)
-        } else {
-            self.path[row - rows.len()].entry(column)
-        }
-    }
-
     // What all rows charge in a column.
     pub(crate) fn charge(&self, column: Column) -> Price
         ensures value { pair result ≡ charged (entries column self.now.claim.task.rows.now self.now.path.now) (leaf_held self.now).multipliers (length self.now.claim.task.rows.now + length self.now.path.now) }
         ensures small { Both (70368811286528 * 36) (pair result) }
     {
+        let of_task = self
+            .claim
+            .task
+            .rows
+            .iter()
+            .map(|row| row_entry(row, column));
+        let of_path = self.path.iter().map(|branch| branch.entry(column));
         let mut cycles: i64 = 0;
         let mut reads: i64 = 0;
-        for row in 0..self.rows() {
-            let entry = self.entry(column, row);
-            let multiplier = self.multiplier(row);
-            cycles += product(entry, multiplier.cycles());
-            reads += product(entry, multiplier.reads());
+        for (row, entry) in of_task.chain(of_path).enumerate() {
+            let charge = charge_of(entry, self.multiplier(row));
+            cycles += charge.cycles();
+            reads += charge.reads();
         }
         price_of(cycles, reads)
     }

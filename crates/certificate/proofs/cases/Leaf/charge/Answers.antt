@@ -1,36 +1,74 @@
-use Rattle.std.proofs.Common.{◌+ℤ◌, ◌≡◌, ◌*ℤ◌, ap, ◌∙◌, arith, w64, SFits, rules}
+use Rattle.std.proofs.Common.{◌≡◌, ℕ, ◌+◌, ◌<◌, ◌+ℤ◌, length, get_or, pos, sym, ap, ◌∙◌, subst, arith, w64, SFits, rules, length-append}
+use Rattle.std.proofs.lemmas.Int.{ints, to_z-of_z}
+use Rattle.std.proofs.lemmas.Iterator.{YieldsList-from_slice, YieldsList-from_map}
+use Rattle.std.proofs.lemmas.Iterator.Consumers.{YieldsList-at, YieldsList-from_chain, YieldsList-from_enumerate, YieldsList-turn}
+use Rattle.std.proofs.lemmas.List.FromFn.{length-enumerate_from, get_or-enumerate_from}
+use Rattle.std.proofs.lemmas.List.{get_or_default}
+use Rattle.price.specs.Ranges.{Within}
+use Rattle.certificate.specs.Lines.{multiplier}
 use Rattle.price.proofs.PairSums.{parts}
 use Rattle.price.specs.Prices.{pair}
-use Rattle.std.proofs.lemmas.Int.{ints, to_z-of_z}
-use Rattle.certificate.specs.Columns.{entries}
+use Rattle.task.specs.NewRows.{row_of}
+use Rattle.certificate.specs.Columns.{entries, row_entry, branch_entry}
 use Rattle.certificate.specs.Held.{leaf_held}
-use Rattle.certificate.proofs.Entries.{charged_more}
+use Rattle.certificate.specs.Splits.{branch_of}
+use Rattle.certificate.proofs.Entries.{entries_long, entry_small, charged_more}
 use Rattle.certificate.proofs.cases.Leaf.charge.Goals as goal
 
-pub overflow_add-reads : goal.overflow_add-reads
-overflow_add-reads c =
-    let f : SFits w64 c.product-reads.result = search rules in
-    let was = simp (c.loop-row.cycles-is, c.loop-row.reads-is) at c.loop-row.invariant in
-    simp (c.loop-row.reads-is, to_z-of_z) (omega (arith, ints, was.1, c.product-reads.ensures.small))
+-- the row of this turn, and its entry
+turn : (c : goal.After-multiplier) →
+    (length c.loop-row.yielded < length c.args.self.now.claim.task.rows.now + length c.args.self.now.path.now)
+    × (c.in-Some.row ≡ length c.loop-row.yielded)
+    × (c.in-Some.entry ≡ get_or (entries c.args.column c.args.self.now.claim.task.rows.now c.args.self.now.path.now) (length c.loop-row.yielded) (pos 0))
+turn c =
+    let rows = c.args.self.now.claim.task.rows.now in
+    let path = c.args.self.now.path.now in
+    let all = entries c.args.column rows path in
+    let t = YieldsList-turn
+    (YieldsList-at c.into_iter-row-iterator.ensures.into_iter_gives (YieldsList-from_enumerate (YieldsList-at c.enumerate-row-items.ensures.source (YieldsList-from_chain
+    (YieldsList-at c.chain.ensures.first (YieldsList-from_map _ (λ r. row_entry c.args.column (row_of r)) (YieldsList-at c.map-of_task.ensures.source (YieldsList-from_slice rows cc)) c.map-of_task.ensures.closure (λ x r q k. search rules)))
+    (YieldsList-at c.chain.ensures.second (YieldsList-from_map _ (λ t. branch_entry c.args.column (branch_of t)) (YieldsList-at c.map-of_path.ensures.source (YieldsList-from_slice path cc)) c.map-of_path.ensures.closure (λ x r q k. search rules)))
+    c.chain.ensures.first_done c.chain.ensures.second_done)) c.enumerate-row-items.ensures.count))
+    c.loop-row.yielded _ c.loop-row.yielded_by _ _ (c.in-Some.row, c.in-Some.entry) c.in-Some.is c.next.ensures.steps in
+    let inside : length c.loop-row.yielded < length all = omega (arith, t.0, length-enumerate_from 0 all) in
+    let at = t.1 ∙ get_or-enumerate_from 0 all (length c.loop-row.yielded) (c.in-Some.row, c.in-Some.entry) inside in
+    let first : 0 + length c.loop-row.yielded ≡ length c.loop-row.yielded = omega arith in (
+      omega (arith, inside, entries_long c.args.column rows path),
+      ap (λ p. p.0) at ∙ first,
+      ap (λ p. p.1) at ∙ get_or_default all (length c.loop-row.yielded) c.in-Some.entry (pos 0) inside,
+    )
+
+pub charge_of-charge-requires : goal.charge_of-charge-requires
+charge_of-charge-requires c =
+    let s : Within 1048577 c.in-Some.entry = subst (Within 1048577) (sym (turn c).2) (entry_small c.args.column c.args.self.now.claim.task.rows.now c.args.self.now.path.now (length c.loop-row.yielded)) in
+    let f : SFits w64 c.in-Some.entry = omega (arith, ints) in
+    simp to_z-of_z (s, c.multiplier.ensures.small)
 
 pub loop-row-preserved : goal.loop-row-preserved
 loop-row-preserved c =
-    let x : SFits w64 c.entry-entry.result = search rules in
-    let a : SFits w64 c.cycles.result = search rules in
-    let b : SFits w64 c.reads.result = search rules in
-    let f : SFits w64 c.product-cycles.result = search rules in
-    let g : SFits w64 c.product-reads.result = search rules in
-    let s : SFits w64 (c.loop-row.cycles +ℤ c.product-cycles.result) = omega (arith, ints, c.product-cycles.ensures.small) in
-    let t : SFits w64 (c.loop-row.reads +ℤ c.product-reads.result) = omega (arith, ints, c.product-reads.ensures.small) in
+    let at = turn c.before.before.before in
+    let all = entries c.args.column c.args.self.now.claim.task.rows.now c.args.self.now.path.now in
+    let small : Within 1048577 c.in-Some.entry = subst (Within 1048577) (sym at.2) (entry_small c.args.column c.args.self.now.claim.task.rows.now c.args.self.now.path.now (length c.loop-row.yielded)) in
+    let e : SFits w64 c.in-Some.entry = omega (arith, ints) in
     let was = simp (c.loop-row.cycles-is, c.loop-row.reads-is) at c.loop-row.invariant in
-    let more = charged_more (entries c.args.column c.args.self.now.claim.task.rows.now c.args.self.now.path.now) (leaf_held c.args.self.now).multipliers c.loop-row.row
-    (c.loop-row.cycles, c.loop-row.reads) (pair c.multiplier-multiplier.result) c.entry-entry.result was.0 c.entry-entry.ensures.value c.multiplier-multiplier.ensures.value in
-    let p : c.product-cycles.result ≡ c.entry-entry.result *ℤ c.multiplier-multiplier.result.cycles = (simp to_z-of_z at c.product-cycles.ensures.value) ∙ ap (λ z. c.entry-entry.result *ℤ z) c.cycles.ensures in
-    let q : c.product-reads.result ≡ c.entry-entry.result *ℤ c.multiplier-multiplier.result.reads = (simp to_z-of_z at c.product-reads.ensures.value) ∙ ap (λ z. c.entry-entry.result *ℤ z) c.reads.ensures in
-    simp (c.loop-row.cycles-is, c.loop-row.reads-is, to_z-of_z) (
-      parts (ap (λ z. c.loop-row.cycles +ℤ z) p) (ap (λ z. c.loop-row.reads +ℤ z) q) ∙ more,
-      (
-        (omega (arith, ints, c.product-cycles.ensures.small), omega (arith, ints, c.product-cycles.ensures.small)),
-        (omega (arith, ints, c.product-reads.ensures.small), omega (arith, ints, c.product-reads.ensures.small)),
-      ),
+    let each = c.charge_of-charge.ensures.small in
+    let f : SFits w64 c.cycles-cycles.result = search rules in
+    let g : SFits w64 c.reads-reads.result = search rules in
+    let s : SFits w64 (c.loop-row.cycles +ℤ c.cycles-cycles.result) = omega (arith, ints, was.2) in
+    let t : SFits w64 (c.loop-row.reads +ℤ c.reads-reads.result) = omega (arith, ints, was.2) in
+    let charge = simp to_z-of_z at c.charge_of-charge.ensures.value in
+    let more = charged_more all (leaf_held c.args.self.now).multipliers (length c.loop-row.yielded) (c.loop-row.cycles, c.loop-row.reads) (pair c.multiplier.result) c.in-Some.entry was.1 at.2
+    (c.multiplier.ensures.value ∙ ap (λ (k : ℕ). multiplier (leaf_held c.args.self.now) k) at.1) in
+    simp (c.loop-row.cycles-is, c.loop-row.reads-is, to_z-of_z, length-append) (
+      omega (arith, at.0),
+      parts (λ i. c.loop-row.cycles +ℤ (c.cycles-cycles.ensures ∙ ap (λ p. p.0) charge) i) (λ i. c.loop-row.reads +ℤ (c.reads-reads.ensures ∙ ap (λ p. p.1) charge) i) ∙ more,
+      ((omega (arith, ints, was.2), omega (arith, ints, was.2)), (omega (arith, ints, was.2), omega (arith, ints, was.2))),
     )
+
+pub returns-clause-small : goal.returns-clause-small
+returns-clause-small c =
+    let was = simp (c.loop-row.cycles-is, c.loop-row.reads-is) at c.loop-row.invariant in
+    let e = simp (c.loop-row.cycles-is, c.loop-row.reads-is) at c.price_of.ensures in
+    let a : c.price_of.result.cycles ≡ c.loop-row.cycles = ap (λ p. p.0) e in
+    let b : c.price_of.result.reads ≡ c.loop-row.reads = ap (λ p. p.1) e in
+    ((omega (arith, ints, was.2), omega (arith, ints, was.2)), (omega (arith, ints, was.2), omega (arith, ints, was.2)))
