@@ -19,7 +19,7 @@ module _ {Y : Type 0} (stage : Stage) (edges : Vec Edge Y) (rows : Vec declared.
   contents = record { stage = stage; edges = vec_items edges; rows = map row_of (vec_items rows) }
 
   -- the lists are within their limits and have room up to them; past the draft, the ends are those of the graph
-  pub record Sound : Type 0 where
+  pub record IsCase : Type 0 where
     pub few_edges : vec_len edges ≤ 64
     pub edge_room : 64 ≤ vec_capacity edges
     pub few_rows : vec_len rows ≤ 24

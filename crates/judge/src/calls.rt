@@ -28,7 +28,7 @@ pub enum Call<'a> {
 }
 
 /// What a call answers, where it does not refuse.
-#[derive(Clone, Copy)]
+#[derive(Clone, Copy, Debug, PartialEq, Eq)]
 pub enum Answer {
     /// The number of the new edge or row.
     Number(usize),

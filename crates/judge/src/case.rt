@@ -1,6 +1,6 @@
 // The record of a case.
 ghost use Rattle.std.specs.Prelude.{◌≡◌};
-ghost use Rattle.judge.specs.Cases.{Contents, contents, Sound};
+ghost use Rattle.judge.specs.Cases.{Contents, contents, IsCase};
 
 use crate::stages::Stage;
 use std::marker::Model;
@@ -21,5 +21,5 @@ impl Model for Case {
 
     ghost view = { λ case. contents case.stage case.edges case.rows };
 
-    ghost invariant = { λ case. Sound case.stage case.edges case.rows };
+    ghost invariant = { λ case. IsCase case.stage case.edges case.rows };
 }

@@ -1,7 +1,7 @@
 // How far a case has come.
 
 /// What a call does depends on the stage.
-#[derive(Clone, Copy)]
+#[derive(Clone, Copy, Debug, PartialEq, Eq)]
 pub enum Stage {
     /// Edges and rows are taken.
     Draft,

@@ -7,6 +7,9 @@ use Rattle.price.specs.Integers.{*ℤ-+ℤ, +ℤ-*ℤ}
 pub parts : {a b : Pair} → a.0 ≡ b.0 → a.1 ≡ b.1 → a ≡ b
 parts p q = λ i. (p i, q i)
 
+pub ⊕-assoc : (a b c : Pair) → (a ⊕ b) ⊕ c ≡ a ⊕ (b ⊕ c)
+⊕-assoc a b c = parts (omega (arith, ints)) (omega (arith, ints))
+
 pub ⊕-zero : (a : Pair) → a ⊕ zero ≡ a
 ⊕-zero a = parts (omega (arith, ints)) (omega (arith, ints))
 
