@@ -74,9 +74,8 @@ pub fn last_exits(flow: Flow<'_>, end: u8) -> [usize; NODES]
 {
     let table = Distances::to_end(flow, end);
     let mut exits = [0; NODES];
-    // by number: with `array::from_fn`, whose calls are told as a chain of 256 facts, the proof did not close
-    for node in 0..NODES {
-        exits[node] = table.exit(flow, node);
+    for (node, exit) in exits.iter_mut().enumerate() {
+        *exit = table.exit(flow, node);
     }
     exits
 }
