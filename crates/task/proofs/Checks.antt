@@ -1,5 +1,5 @@
 -- What the answer of `check_turns` says.
-use Rattle.std.proofs.Common.{◌≡◌, ℕ, Bool, true, false, eqb, ◌↔◌, List, length, get_or, Some, None, Ok, Err, Option, Result, sym, refl, subst, arith}
+use Rattle.std.proofs.Common.{◌≡◌, ℕ, Bool, true, false, eqb, ◌↔◌, List, length, get_or, Some, None, Ok, Option, Result, sym, refl, subst, arith}
 use Rattle.price.specs.Questions.{ask}
 use Rattle.price.specs.declared.refusals.Refusal.{Refusal}
 use Rattle.price.specs.declared.refusals.Refusal.TheVariants.{TurnsCount, TurnsRange, Unbalanced, Stranded, RowBroken}
@@ -82,15 +82,12 @@ module _ (es : List Edge) (rows : List Row) (start end : ℕ) (ts : List ℕ) wh
   -- ---- sound turns are accepted, and nothing else
 
   module _ (r : Result (Unit {0}) Refusal) where
-    never : (refusal : Refusal) → r ≡ Err refusal → r ≡ Ok tt → ⊥
-    never refusal p q = let z : ◌≡◌ {A = ℕ} 0 1 = cc in omega arith
-
     accepted : Checked es rows start end ts r → r ≡ Ok tt → Sound es rows start end ts
-    accepted (turns_count is off) ok = absurd (never TurnsCount is ok)
-    accepted (turns_range x is sized low) ok = absurd (never (TurnsRange x) is ok)
-    accepted (node_unbalanced v is so low) ok = absurd (never (Unbalanced v) is ok)
-    accepted (edge_stranded x is so low) ok = absurd (never (Stranded x) is ok)
-    accepted (row_broken i is so low) ok = absurd (never (RowBroken i) is ok)
+    accepted (turns_count is off) ok = cc
+    accepted (turns_range x is sized low) ok = cc
+    accepted (node_unbalanced v is so low) ok = cc
+    accepted (edge_stranded x is so low) ok = cc
+    accepted (row_broken i is so low) ok = cc
     accepted (turns_sound is sound) ok = sound
 
     accepts : Checked es rows start end ts r → Sound es rows start end ts → r ≡ Ok tt

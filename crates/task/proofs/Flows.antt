@@ -1,10 +1,10 @@
 -- What the tests of turns say of balance, of the way to the end and of rows.
-use Rattle.std.proofs.Common.{◌≡◌, ℕ, ◌+◌, ◌<◌, ◌≤◌, true, false, not, eqb, List, [], ◌∷◌, length, get_or, ℤ, ap, ⊎_elim, arith}
+use Rattle.std.proofs.Common.{◌≡◌, ℕ, ◌<◌, ◌≤◌, true, false, not, eqb, List, [], ◌∷◌, length, get_or, ℤ, ap, ⊎_elim, arith}
 use borrow.Author.Differences.{ints}
-use lib.Signed.{le_z}
 use Rattle.std.specs.List.{AllByRecursion}
 use Rattle.std.proofs.lemmas.List.{get_or_default}
-use Rattle.std.proofs.lemmas.Bool.{both_ways, eqb-true, eqb-false, ne_eqb, ltb-true, lt-ltb, and_parts, and_cases, not-true, not-false, cases_lt}
+use Rattle.std.proofs.lemmas.Bool.{both_ways, ne_eqb, ltb-true, lt-ltb, and_parts, and_cases, not-true, not-false, cases_lt}
+use Rattle.std.proofs.lemmas.Bool.Decides.{nat_tests}
 use Rattle.task.specs.declared.edges.Edge.{Edge}
 use Rattle.task.specs.declared.edges.Side.{Side}
 use Rattle.task.specs.declared.edges.Side.TheVariants.{Tail, Head}
@@ -24,16 +24,10 @@ use Rattle.task.proofs.Spreads.{reached_way, way_reached}
 
 module _ (es : List Edge) (start end : ℕ) (ts : List ℕ) (v : ℕ) where
   pub balance : unbalanced es start end ts v ≡ false → Balanced es start end ts v
-  balance h =
-      let entering = turns_at Head v es ts + one_if (eqb v start) in
-      let leaving = turns_at Tail v es ts + one_if (eqb v end) in
-      eqb-true entering leaving (not-false (eqb entering leaving) h)
+  balance h = grind (arith, nat_tests)
 
   pub no_balance : unbalanced es start end ts v ≡ true → Balanced es start end ts v → ⊥
-  no_balance h =
-      let entering = turns_at Head v es ts + one_if (eqb v start) in
-      let leaving = turns_at Tail v es ts + one_if (eqb v end) in
-      eqb-false entering leaving (not-true (eqb entering leaving) h)
+  no_balance h b = grind (arith, nat_tests)
 
 side_low : (side : Side) (e : Edge) (es : List Edge) → end_at side e < node_count (e ∷ es)
 side_low Tail e es = omega arith
@@ -88,7 +82,7 @@ module _ (es : List Edge) (ts : List ℕ) (sized : length ts ≡ length es) wher
 meets_so : (r : Relation) (sum k : ℤ) → meets r sum k ≡ true → Meets r sum k
 meets_so Below sum k h = grind (arith, ints)
 meets_so AtMost sum k h = grind (arith, ints)
-meets_so Equal sum k h = let p = and_parts (le_z sum k) (le_z k sum) h in grind (arith, ints)
+meets_so Equal sum k h = grind (arith, ints)
 
 meets_not : (r : Relation) (sum k : ℤ) → meets r sum k ≡ false → Meets r sum k → ⊥
 meets_not Below sum k h m = grind (arith, ints)

@@ -1,11 +1,10 @@
 -- What the answer of `ends` says of nodes and paths.
-use Rattle.std.proofs.Common.{◌≡◌, ℕ, zero, suc, ◌+◌, ◌<◌, ◌≤◌, max, Bool, true, false, not, ◌&&◌, eqb, ◌⊎◌, ◌↔◌, List, [], ◌∷◌, ◌++◌, length, Some, None, Ok, Err, Option, Result, sym, refl, ◌∙◌, subst, inl, inr, ⊎_elim, le_of_suc-le-suc, not-suc-le-zero, arith}
+use Rattle.std.proofs.Common.{◌≡◌, ℕ, zero, suc, ◌+◌, ◌<◌, ◌≤◌, max, Bool, true, false, not, ◌&&◌, eqb, ◌⊎◌, ◌↔◌, List, [], ◌∷◌, ◌++◌, length, Some, None, Ok, Option, Result, sym, refl, ◌∙◌, subst, inl, inr, ⊎_elim, le_of_suc-le-suc, not-suc-le-zero, arith}
 use Rattle.std.proofs.lemmas.Bool.{both_ways, eqb-true, eq-eqb, or_cases, or_left, or_right, and_parts, and_from, not-true, not-false}
 use Rattle.task.specs.declared.edges.Edge.{Edge}
 use Rattle.task.specs.declared.edges.Side.{Side}
 use Rattle.task.specs.declared.edges.Side.TheVariants.{Tail, Head}
 use Rattle.price.specs.declared.refusals.Refusal.{Refusal}
-use Rattle.price.specs.declared.refusals.Refusal.TheVariants.{NotOneStart, NotOneEnd, NodeAstray}
 use Rattle.task.specs.Lowest.{sole, first}
 use Rattle.task.specs.Ways.{Way}
 use Rattle.task.specs.Graph.{tail_of, head_of, Node, Start, End, Path}
@@ -164,16 +163,13 @@ module _ (es : List Edge) where
   -- ---- the ends are accepted, and nothing else
 
   module _ (r : Result (ℕ × ℕ) Refusal) (s e : ℕ) where
-    never : (refusal : Refusal) → r ≡ Err refusal → r ≡ Ok (s, e) → ⊥
-    never refusal p q = let z : ◌≡◌ {A = ℕ} 0 1 = cc in omega arith
-
     same_ends : (a b : ℕ) → r ≡ Ok (a, b) → r ≡ Ok (s, e) → ◌≡◌ {A = ℕ × ℕ} (a, b) (s, e)
     same_ends a b p q = cc
 
     accepted : Sealed es r → r ≡ Ok (s, e) → Ends es s e
-    accepted (not_one_start is none) ok = absurd (never NotOneStart is ok)
-    accepted (not_one_end is _ _ none) ok = absurd (never NotOneEnd is ok)
-    accepted (node_astray v is low) ok = absurd (never (NodeAstray v) is ok)
+    accepted (not_one_start is none) ok = cc
+    accepted (not_one_end is _ _ none) ok = cc
+    accepted (node_astray v is low) ok = cc
     accepted (sealed a b is ends) ok = subst (λ (p : ℕ × ℕ). Ends es p.0 p.1) (same_ends a b is ok) ends
 
     accepts : Sealed es r → Ends es s e → r ≡ Ok (s, e)
