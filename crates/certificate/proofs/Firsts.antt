@@ -1,5 +1,5 @@
 -- The first that fails of two lists, one behind the other.
-use Rattle.std.proofs.Common.{◌≡◌, ℕ, suc, ◌+◌, Bool, true, false, List, [], ◌∷◌, ◌++◌, map, length, refl, ap, ◌∙◌, arith}
+use Rattle.std.proofs.Common.{◌≡◌, ℕ, suc, ◌+◌, Bool, true, false, List, [], ◌∷◌, ◌++◌, length, refl, ap, ◌∙◌, arith}
 use Rattle.price.specs.Questions.{ask}
 use Rattle.price.specs.declared.refusals.Refusal.{Refusal}
 use Rattle.certificate.specs.Tasks.{Answer}
@@ -16,8 +16,3 @@ module _ {A : Type 0} (ok : ℕ → A → Bool) (refusal : ℕ → Refusal) wher
       let e : n + 1 + length xs ≡ n + suc (length xs) = omega arith in
       ap (ask (ok n x) (refusal n)) (first_append (n + 1) xs ys ∙ ap (λ (k : ℕ). before (first_failing ok refusal (n + 1) xs) (first_failing ok refusal k ys)) e)
       ∙ ask_before (ok n x) (refusal n) (first_failing ok refusal (n + 1) xs) (first_failing ok refusal (n + suc (length xs)) ys)
-
--- tests made of the elements
-pub first_map : {A : Type 0} (f : A → Bool) (refusal : ℕ → Refusal) (n : ℕ) (xs : List A) → first_failing (λ i b. b) refusal n (map f xs) ≡ first_failing (λ i x. f x) refusal n xs
-first_map f refusal n [] = refl
-first_map f refusal n (x ∷ xs) = ap (ask (f x) (refusal n)) (first_map f refusal (n + 1) xs)

@@ -1,10 +1,8 @@
 pub mod Products
 pub mod Smalls
 pub mod Entries
-pub mod Fronts
 pub mod Onward
 pub mod PathSteps
-pub mod Readers
 pub mod Charges
 pub mod Levels
 pub mod Signs

@@ -9,7 +9,7 @@ use crate::cases::Leaf;
 use price::{Refusal, Tariff};
 
 impl Leaf<'_> {
-    // Asks the rows in rising order, those of the task first.
+    // Asks the rows in rising order, those of the task first. A labelled loop over their numbers, left with the leaf and the row at fault.
     fn ask_signs<T: Tariff>(&self, tariff: &T) -> Result<(), Refusal>
         ensures { result ≡ signs_answer (T.le tariff.now) (lines_of self.now) (leaf_held self.now) self.now.number }
     {
@@ -26,7 +26,7 @@ impl Leaf<'_> {
         answer
     }
 
-    // Asks the edges in rising order.
+    // Asks the edges in rising order, in a loop of the same form.
     fn ask_edges<T: Tariff>(&self, tariff: &T) -> Result<(), Refusal>
         ensures { result ≡ edges_answer (T.le tariff.now) (task_of self.now.claim.task) (lines_of self.now) (leaf_held self.now) self.now.number }
     {

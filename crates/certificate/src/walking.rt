@@ -25,6 +25,7 @@ pub(crate) fn judge_list<T: Tariff>(
     let shape = claim.shape();
     let mut path = Path::new();
     let mut rest = list;
+    // no iterator counts the leaves: splits stand between them
     let mut count = 0;
     while let Some((record, next)) = read_record(rest, shape.under(path.depth())) {
         match record {
@@ -32,6 +33,7 @@ pub(crate) fn judge_list<T: Tariff>(
                 let turns = Turns {
                     count: most.unsigned_abs(),
                 };
+                // a cast, since Rust has no `From<u32>` for `usize`
                 path.push(edge.unsigned_abs() as usize, turns);
             }
             Record::Leaf {

@@ -1,26 +1,13 @@
-use Rattle.std.proofs.Common.{◌≡◌, ◌^◌, true, false, ◌&&◌, leb, map, length, sym, ap, ◌∙◌, arith, w32, to_z, of_z}
+use Rattle.std.proofs.Common.{◌≡◌, ◌^◌, true, ◌&&◌, leb, map, length, sym, ap, ◌∙◌, arith, w32, to_z, of_z}
 use Rattle.price.specs.Prices.{pair}
 use Rattle.std.proofs.lemmas.List.{length-map}
 use Rattle.std.proofs.lemmas.Int.{to_z-of_z}
-use Rattle.std.proofs.lemmas.Bool.{le-leb, lt-leb}
+use Rattle.std.proofs.lemmas.Bool.{le-leb}
 use Rattle.task.specs.Coefficients.{in_range}
 use Rattle.task.specs.NewRows.{row_of}
 use Rattle.certificate.specs.Tasks.{task_of}
 use Rattle.certificate.specs.Verdicts.{list_answer, task_answer}
 use Rattle.certificate.proofs.proving.judge.Goals as goal
-
-pub returns-then-task-gt-MAX_ROWS : goal.returns-then-task-gt-MAX_ROWS
-returns-then-task-gt-MAX_ROWS g c =
-    let es : leb (length c.args.task.edges.now) 64 ≡ true = le-leb _ _ (omega arith) in
-    let rs : leb (length (map row_of c.args.task.rows.now)) 24 ≡ false = lt-leb _ _ (omega (arith, length-map c.args.task.rows.now row_of)) in
-    simp (es, rs)
-
-pub returns-then-not-is_claimable : goal.returns-then-not-is_claimable
-returns-then-not-is_claimable g c =
-    let es : leb (length c.args.task.edges.now) 64 ≡ true = le-leb _ _ (omega arith) in
-    let rs : leb (length (map row_of c.args.task.rows.now)) 24 ≡ true = le-leb _ _ (omega (arith, length-map c.args.task.rows.now row_of)) in
-    let ps : in_range (2 ^ 42) c.args.price.cycles && in_range (2 ^ 42) c.args.price.reads ≡ false = sym c.is_claimable.ensures ∙ c.if-not-is_claimable.true in
-    simp (es, rs, ps)
 
 pub returns : goal.returns
 returns g c =

@@ -11,12 +11,6 @@ use Rattle.certificate.proofs.ranges.+ask_ranges.Goals as goal
 pub returns-in_default : goal.returns-in_default
 returns-in_default t c s ys f e = absurd (always c.args.shape.nodes c.args.shape.rows c.args.shape.splits s ys c.args.list.now f e c.in_default.ensures)
 
-pub ask_record-requires : goal.ask_record-requires
-ask_record-requires t c =
-    let p = c.requires.spelled in
-    let w = seen c.args.shape.nodes c.args.shape.rows c.args.shape.splits p.of p.rest c.args.list.now p.fits p.is c.in-Some.record c.in-Some.rest.now c.in-Some.ensures (held c.in-Some.record) refl in
-    omega (arith, w.1, c.requires.place)
-
 pub returns-in_err-ask_record : goal.returns-in_err-ask_record
 returns-in_err-ask_record t c s ys f e =
     let w = seen c.args.shape.nodes c.args.shape.rows c.args.shape.splits s ys c.args.list.now f e c.in-Some.record c.in-Some.rest.now c.in-Some.ensures (held c.in-Some.record) refl in
