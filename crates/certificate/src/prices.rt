@@ -9,7 +9,7 @@ use crate::cases::Leaf;
 use price::Price;
 use task::Edge;
 
-// The price with these parts, which the caller knows to be in range.
+// The price with these parts, which the caller knows to be in range. By `Price::new`, since a public function asks nothing of its caller.
 pub(crate) fn price_of(cycles: i64, reads: i64) -> Price
     requires { (Part cycles) × (Part reads) }
     ensures { pair result ≡ (cycles, reads) }

@@ -17,7 +17,7 @@ const MAX_LENGTH: usize = 4095;
 // The count of turns is a number of the line too.
 const MAX_TURNS: usize = MAX_NUMBERS - 1;
 
-/// Room for the numbers of a line.
+/// Room for the numbers of a line, so that reading one takes no memory.
 #[derive(Drop)]
 pub struct Tables {
     turns: [u32; MAX_TURNS],

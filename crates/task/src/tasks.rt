@@ -10,7 +10,7 @@ pub const MAX_EDGES: usize = 64;
 /// As many rows as a case may have.
 pub const MAX_ROWS: usize = 24;
 
-/// As many nodes as a node's number can name: the length of each table by nodes.
+/// As many nodes as a node's number can name: the length of each table by nodes. These are arrays, since judging takes no memory.
 pub const NODES: usize = 256;
 
 /// The edges and the rows of a task, its start and its end.

@@ -55,7 +55,7 @@ impl Distances {
             && self.far[head] + 1 == self.far[node]
     }
 
-    // The lowest such edge, or the number of edges: the node's last exit.
+    // The lowest such edge, or the number of edges: the node's last exit. A number and no `Option`: the rule of step takes it as it stands.
     fn exit(&self, flow: Flow<'_>, node: usize) -> usize
         requires { node < 256 }
         ensures { (end : ℕ) → Far flow.entry.edges.now flow.entry.turns.now end self.now.far → result ≡ last_exit flow.entry.edges.now flow.entry.turns.now end node }
