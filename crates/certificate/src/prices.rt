@@ -37,6 +37,7 @@ impl Leaf<'_> {
     {
         price_of(self.scaled(cycles), self.scaled(reads))
     }
+
     // The price of an edge, times the scale.
     pub(crate) fn scaled_price(&self, edge: &Edge) -> Price
         ensures { pair result ≡ times (pos self.now.scale) (edge_price edge.now) }

@@ -16,6 +16,7 @@ use task::{Relation, Row};
 fn wants_equality(rows: &[Row], i: usize) -> bool
     ensures { result ≡ equal_at rows.now i }
 {
+    // two arms: with `is_some_and` the proof did not close
     match rows.get(i) {
         Some(row) => matches!(row.relation, Relation::Equal),
         None => false,

@@ -1,4 +1,4 @@
-// The number at the front of a text.
+// The number at the front of a text, digit by digit: `parse` would take a plus sign and spare zeros.
 ghost use Rattle.std.specs.Prelude.{◌≡◌};
 ghost use Rattle.grammar.specs.Numbers.{digit as digit_of, with_digit, digits_on, natural_front};
 ghost use Rattle.grammar.specs.Numbers.{natural_after, integer_after};

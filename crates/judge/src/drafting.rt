@@ -1,4 +1,4 @@
-// The calls that draft a task and seal it.
+// The calls that draft a task and seal it. What a call does depends on the stage: each matches on it.
 ghost use Rattle.std.specs.Prelude.{◌≡◌, ℕ, IfOk, Ok};
 ghost use Rattle.judge.specs.Cases.{fresh};
 ghost use Rattle.judge.specs.Drafting.{edge_answer, edge_kept, row_answer, row_kept, seal_answer, seal_kept};

@@ -13,6 +13,7 @@ pub fn perform<T: Tariff>(case: &mut Case, tariff: &T, call: &Call) -> Result<An
     ensures answer { said result ≡ answered (T.le tariff.now) (T.unit tariff.now) case.old (request call.now) }
     ensures kept { case.new ≡ after (T.le tariff.now) (T.unit tariff.now) case.old (request call.now) }
 {
+    // calls are data, read from a line, and each kind has numbers of its own
     match *call {
         Call::Edge {
             tail,
