@@ -22,7 +22,7 @@ pub(crate) fn judge_line(
     }
 }
 
-/// Has the case do what the line asks, judged cycles first, writes the reply at the front of the buffer, and answers its length.
+/// Has the case do what the line asks, judged cycles first, writes the reply at the front of the buffer, which is the caller's, and answers its length.
 /// A buffer shorter than 64 bytes is refused before all else.
 pub fn line(text: &[u8], case: &mut Case, reply: &mut [u8]) -> Result<usize, Refusal>
     ensures refused { length reply.old < 64 → (result ≡ Err Refusal.ReplyRoom) × (reply.new ≡ reply.old) × (case.new ≡ case.old) }

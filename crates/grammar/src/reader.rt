@@ -20,6 +20,7 @@ const MAX_TURNS: usize = MAX_NUMBERS - 1;
 /// Room for the numbers of a line, so that reading one takes no memory.
 #[derive(Drop)]
 pub struct Tables {
+    // filled up to a count that the line gives first
     turns: [u32; MAX_TURNS],
     integers: ArrayVec<i32, MAX_NUMBERS>,
 }

@@ -1,6 +1,7 @@
 // The record of a case.
-ghost use Rattle.std.specs.Prelude.{◌≡◌};
+ghost use Rattle.std.specs.Prelude.{◌≡◌, ◌≤◌, true, length};
 ghost use Rattle.judge.specs.Cases.{Contents, contents, IsCase};
+ghost use Rattle.judge.specs.Stages.{stage_ends_hold};
 
 use crate::stages::Stage;
 use std::marker::Model;
@@ -22,4 +23,16 @@ impl Model for Case {
     ghost view = { λ case. contents case.stage case.edges case.rows };
 
     ghost invariant = { λ case. IsCase case.stage case.edges case.rows };
+}
+
+impl Case {
+    /// The theorem that a case keeps to its limits, and that past the draft its ends are those of its graph.
+    pub fn keeps_limits(&self)
+        ensures few_edges { length self.now.edges ≤ 64 }
+        ensures few_rows { length self.now.rows ≤ 24 }
+        ensures ends_hold { stage_ends_hold self.now.stage self.now.edges ≡ true }
+    {
+        // the facts of a case are known once a field of it is touched
+        let _ = &self.stage;
+    }
 }

@@ -1,4 +1,4 @@
-// The calls that judge a claim.
+// The calls that judge a claim. What a call does depends on the stage: each matches on it.
 ghost use Rattle.std.specs.Prelude.{◌≡◌, ◌≤◌, length, IfOk, OnOk};
 ghost use Rattle.certificate.specs.Tasks.{task_of};
 ghost use Rattle.certificate.specs.Verdicts.{void_answer as tree_answer};

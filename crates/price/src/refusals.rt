@@ -37,7 +37,7 @@ pub enum Refusal {
 }
 
 impl Refusal {
-    /// The number of the question, and its two place numbers, 0 where it names none.
+    /// The number of the question, and its two place numbers, 0 where it names none: what a reply prints.
     pub fn numbers(self) -> (u32, usize, usize)
         ensures { result ≡ refusal_numbers self }
     {

@@ -20,7 +20,7 @@ pub struct Edge {
     pub reads: u16,
 }
 
-// The two ends of an edge; what the calls below promise speaks of a side, which two closures would not name.
+// The two ends of an edge: the contracts speak of a side, which two closures would not name.
 #[derive(Clone, Copy)]
 pub(crate) enum Side {
     Tail,

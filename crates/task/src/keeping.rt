@@ -9,7 +9,7 @@ ghost use Rattle.task.specs.TurnsAnswer.{broken, kept, meets, rows_of};
 use crate::rows::{Relation, Row};
 use crate::tasks::Flow;
 
-// A coefficient times turns.
+// A coefficient times turns; the bound of a product is what its contract is for.
 fn weighed(coefficient: i32, turns: u32) -> i128
     ensures value { result ≡ coefficient *ℤ pos turns }
     ensures small { Within (2 ^ 63) result }

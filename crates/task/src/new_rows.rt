@@ -31,7 +31,7 @@ fn with_zeros(coefficients: &[i32]) -> [i32; BLOCKS]
 impl TryFrom<i32> for Relation {
     type Error = Refusal;
 
-    ghost try_from_gives = { λ number relation. relation ≡ related number };
+    ghost try_from_gives = { λ number made. made ≡ related number };
 
     fn try_from(number: i32) -> Result<Relation, Refusal> {
         match number {

@@ -8,7 +8,7 @@ use crate::edges::Edge;
 use crate::tasks::Flow;
 use price::{Price, Refusal};
 
-// One part of an edge's price times its turns.
+// One part of an edge's price times its turns, with the bound that the sum needs.
 fn times(part: u16, turns: u32) -> u128
     ensures value { result ≡ turns * part }
     ensures small { result ≤ turns * 2 ^ 16 }
@@ -44,7 +44,7 @@ impl Flow<'_> {
     {
         let mut cycles: u128 = 0;
         let mut reads: u128 = 0;
-        // by index: one pass over both lists adds up both parts
+        // by index over the turns, both parts at once: a form that this project fixes
         for x in 0..self.edges.len().min(self.turns.len()) {
             let (more_cycles, more_reads) = self.edges[x].cost(self.turns[x]);
             cycles += more_cycles;

@@ -3,7 +3,7 @@ ghost use Rattle.std.specs.Prelude.{◌≡◌, true, length};
 ghost use Rattle.price.specs.Ranges.{Within};
 ghost use Rattle.task.specs.Coefficients.{all_small};
 
-/// As many blocks as a row has coefficients: a number for each, in an array, so that a row takes no memory of its own.
+/// As many coefficients as a row has, one for each block: in an array, so that a row takes no memory of its own.
 pub const BLOCKS: usize = 64;
 
 /// How a row's sum is compared with its number k.

@@ -53,6 +53,7 @@ fn only_free(edges: &[Edge], side: Side) -> Option<u8>
 fn first_astray(edges: &[Edge], start: u8, end: u8) -> Option<usize>
     ensures { result ≡ first (astray edges.now start end) (node_count edges.now) }
 {
+    // without a list of turns every edge may be taken
     let every_edge = Flow { edges, turns: &[] };
     let from_start = every_edge.joined_to(Side::Head, start);
     let to_end = every_edge.joined_to(Side::Tail, end);

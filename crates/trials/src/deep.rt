@@ -5,13 +5,11 @@ const SPLITS: u32 = 12;
 
 const LEAVES: u32 = 4_096;
 
-// A split of edge 0 at m = 0.
-fn push_split(tree: &mut Vec<i32>) -> Result<(), AllocError> {
-    tree.extend_from_slice(&[1, 0, 0])
-}
-
-// A leaf of scale 1 for the task of one edge that costs (20, 1), with no use of the path rows.
-fn push_leaf(tree: &mut Vec<i32>) -> Result<(), AllocError> {
+// A leaf of scale 1 for the task of one edge that costs (20, 1), with no use of the path rows, behind so many splits of edge 0 at m = 0.
+fn push_leaf(tree: &mut Vec<i32>, splits: u32) -> Result<(), AllocError> {
+    for _ in 0..splits {
+        tree.extend_from_slice(&[1, 0, 0])?;
+    }
     tree.extend_from_slice(&[0, 1, 20, 1, 0, 0])?;
     tree.extend_from_slice(&[0; 24])
 }
@@ -20,10 +18,7 @@ fn push_leaf(tree: &mut Vec<i32>) -> Result<(), AllocError> {
 pub(crate) fn deep_tree(heap: Global) -> Result<Vec<i32>, AllocError> {
     let mut tree = Vec::new(heap);
     for leaf in 0..LEAVES {
-        for _ in 0..leaf.trailing_zeros().min(SPLITS) {
-            push_split(&mut tree)?;
-        }
-        push_leaf(&mut tree)?;
+        push_leaf(&mut tree, leaf.trailing_zeros().min(SPLITS))?;
     }
     Ok(tree)
 }

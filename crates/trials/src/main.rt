@@ -51,20 +51,21 @@ fn tell(rt: &HostRuntime, name: &str, answer: Result<Answer, Refusal>) -> anyhow
 }
 
 // The loop with a half-integral row, where only the retry costs anything.
-fn draft_retry(heap: Global) -> anyhow::Result<Case> {
+const RETRY: &[u8] =
+    b"edge 0 1 0 0 0\nedge 1 2 1 0 0\nedge 2 1 2 1 0\nedge 2 3 3 0 0\nrow 1 0 -3 0 2\nseal\n";
+
+const ONE_EDGE: &[u8] = b"edge 0 1 0 20 1\nseal\n";
+
+// A fresh case after these lines.
+fn sealed(heap: Global, lines: &[u8]) -> anyhow::Result<Case> {
     let mut case = Case::new(heap)?;
-    let drafted = session(
-        heap,
-        &mut case,
-        b"edge 0 1 0 0 0\nedge 1 2 1 0 0\nedge 2 1 2 1 0\nedge 2 3 3 0 0\nrow 1 0 -3 0 2\nseal\n",
-    )?;
-    drop(drafted);
+    session(heap, &mut case, lines)?;
     Ok(case)
 }
 
 // The same claim at scale 2 under a tariff.
 fn claim_at_scale_two<T: Tariff>(rt: &HostRuntime, name: &str, tariff: &T) -> anyhow::Result<()> {
-    let mut case = draft_retry(rt.alloc())?;
+    let mut case = sealed(rt.alloc(), RETRY)?;
     let call = Call::Claim {
         turns: &[1, 2, 1, 1],
         tree: &[0, 2, 3, 0, 0, 0, 0, 0, 0, 0, 1, 0],
@@ -76,9 +77,7 @@ fn claim_at_scale_two<T: Tariff>(rt: &HostRuntime, name: &str, tariff: &T) -> an
 fn claim_deep(rt: &HostRuntime) -> anyhow::Result<()> {
     let heap = rt.alloc();
     let tree = deep_tree(heap)?;
-    let mut case = Case::new(heap)?;
-    let drafted = session(heap, &mut case, b"edge 0 1 0 20 1\nseal\n")?;
-    drop(drafted);
+    let mut case = sealed(heap, ONE_EDGE)?;
     let call = Call::Claim {
         turns: &[1],
         tree: &tree,
