@@ -36,6 +36,14 @@ lowest_is p n x low t miss = ⊎_elim
 pub lowest_none : (p : ℕ → Bool) (n : ℕ) → ((y : ℕ) → y < n → p y ≡ false) → n ≤ lowest p n
 lowest_none p n miss = ⊎_elim (λ h. absurd (both_ways (p (lowest p n)) (miss (lowest p n) h) (lowest_passes p n h))) (λ h. h) (cases_lt (lowest p n) n)
 
+pub lowest_most : (p : ℕ → Bool) (n : ℕ) → lowest p n ≤ n
+lowest_most p zero = omega arith
+lowest_most p (suc n) = go (p zero) (lowest_most (λ i. p (suc i)) n)
+  where
+    go : (b : Bool) → lowest (λ i. p (suc i)) n ≤ n → cond b zero (suc (lowest (λ i. p (suc i)) n)) ≤ suc n
+    go true ih = omega arith
+    go false ih = omega arith
+
 -- how many numbers below n pass
 pub count : (ℕ → Bool) → ℕ → ℕ
 count p zero = 0

@@ -6,12 +6,11 @@ use Rattle.std.proofs.lemmas.Bool.{both_ways, eqb-true, cases_eq, cases_lt}
 use Rattle.task.specs.declared.edges.Edge.{Edge}
 use Rattle.task.specs.Graph.{tail_of, head_of}
 use Rattle.task.specs.Lowest.{lowest}
-use Rattle.task.proofs.Lowest.{lowest_passes, lowest_le}
+use Rattle.task.proofs.Lowest.{lowest_passes, lowest_le, lowest_most}
 use Rattle.task.proofs.Reach as ways
 use Rattle.walk.specs.Rule.{has_turns, hops, near, distance}
 use Rattle.walk.specs.Tables.{Far, Relaxed, Right, Pass}
 use Rattle.walk.proofs.Reach.{hop_leaves, near_end, near_on}
-use Rattle.walk.proofs.Searches.{lowest_most}
 
 -- ---- one pass
 

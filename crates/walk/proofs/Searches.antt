@@ -1,27 +1,15 @@
 -- What a search over the edges answers.
-use Rattle.std.proofs.Common.{◌≡◌, ℕ, zero, suc, ◌+◌, ◌<◌, ◌≤◌, Bool, true, false, cond, ◌&&◌, eqb, List, length, Some, None, Option, MatchOption, unwrap_or, sym, ap, ◌∙◌, ap₂, arith}
+use Rattle.std.proofs.Common.{◌≡◌, ℕ, ◌+◌, ◌<◌, Bool, true, false, ◌&&◌, eqb, List, length, Some, None, Option, unwrap_or, sym, ap, ◌∙◌, ap₂, arith}
 use Rattle.std.proofs.lemmas.Bool.{ne_eqb, cond-false}
 use Rattle.task.specs.declared.edges.Edge.{Edge}
 use Rattle.task.specs.Graph.{head_of}
-use Rattle.task.specs.Lowest.{lowest}
-use Rattle.task.proofs.Lowest.{lowest_is, lowest_none}
+use Rattle.task.specs.Lowest.{lowest, FirstFrom}
+use Rattle.task.proofs.Lowest.{lowest_is, lowest_none, lowest_most}
 use Rattle.walk.specs.Rule.{spares, beside, hops, taken, leads_nearer}
 use Rattle.walk.specs.Tables.{Far, nearer_by}
 use Rattle.walk.proofs.Rule.{beside_spare, beside_last}
 
-pub lowest_most : (p : ℕ → Bool) (n : ℕ) → lowest p n ≤ n
-lowest_most p zero = omega arith
-lowest_most p (suc n) = go (p zero) (lowest_most (λ i. p (suc i)) n)
-  where
-    go : (b : Bool) → lowest (λ i. p (suc i)) n ≤ n → cond b zero (suc (lowest (λ i. p (suc i)) n)) ≤ suc n
-    go true ih = omega arith
-    go false ih = omega arith
-
--- what a search of the numbers below n finds
-abbrev pub Found : (ℕ → Bool) → ℕ → Option ℕ → Type 0
-Found p n r = MatchOption r ((k : ℕ) → 0 ≤ k → k < n → p k ≡ false) (λ i. (0 ≤ i) × (i < n) × (p i ≡ true) × ((k : ℕ) → 0 ≤ k → k < i → p k ≡ false))
-
-pub found_or_all : (p : ℕ → Bool) (n : ℕ) (r : Option ℕ) → Found p n r → unwrap_or r n ≡ lowest p n
+pub found_or_all : (p : ℕ → Bool) (n : ℕ) (r : Option ℕ) → FirstFrom p 0 n r → unwrap_or r n ≡ lowest p n
 found_or_all p n None miss = omega (arith, lowest_none p n (λ y h. miss y (omega arith) h), lowest_most p n)
 found_or_all p n (Some x) found = sym (lowest_is p n x found.1 found.2 (λ y h. found.3 y (omega arith) h))
 
@@ -43,6 +31,6 @@ module _ (es : List Edge) (left : List ℕ) (v end last : ℕ) where
   taken_last off miss =
       sym (cond-false (eqb v end) None (Some (beside es left v last)) (ne_eqb v end off) ∙ ap Some (beside_last es left v last (lowest_none (spares es left v last) (length es) miss)))
 
-  pub found_or_last : (v ≡ end → ⊥) → (r : Option ℕ) → Found (spares es left v last) (length es) r → Some (unwrap_or r last) ≡ taken es left v end last
+  pub found_or_last : (v ≡ end → ⊥) → (r : Option ℕ) → FirstFrom (spares es left v last) 0 (length es) r → Some (unwrap_or r last) ≡ taken es left v end last
   found_or_last off None miss = taken_last off (λ y h. miss y (omega arith) h)
   found_or_last off (Some x) found = taken_spare off x found.1 found.2 (λ y h. found.3 y (omega arith) h)
