@@ -19,10 +19,7 @@ impl Leaf<'_> {
         let before = self.potential(from);
         let after = self.potential(to);
         let charge = self.charge(column);
-        price_of(
-            before.cycles() - after.cycles() + charge.cycles(),
-            before.reads() - after.reads() + charge.reads(),
-        )
+        price_of(before.0 - after.0 + charge.0, before.1 - after.1 + charge.1)
     }
 
     // What an edge may cost.

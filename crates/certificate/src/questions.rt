@@ -29,8 +29,11 @@ impl Leaf<'_> {
         requires { row < length self.now.claim.task.rows.now + length self.now.path.now }
         ensures { result ≡ row_ok (T.le tariff.now) (leaf_held self.now) row (slice_index_or (lines_of self.now) row no_line) }
     {
-        wants_equality(self.claim.task.rows, row)
-            || tariff.compare(price_of(0, 0), self.multiplier(row))
+        if wants_equality(self.claim.task.rows, row) {
+            return true;
+        }
+        let (cycles, reads) = self.multiplier(row);
+        tariff.compare(price_of(0, 0), price_of(cycles, reads))
     }
 
     // Whether D times the edge's price is no dearer than its allowance.

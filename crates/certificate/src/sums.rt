@@ -6,14 +6,11 @@ ghost use Rattle.certificate.specs.Lines.{multiplier, pairs, potential};
 ghost use Rattle.certificate.specs.Ready.{Small};
 ghost use Rattle.certificate.specs.Splits.{branch_of};
 ghost use Rattle.price.specs.Pairs.{times, zero};
-ghost use Rattle.price.specs.Prices.{pair};
 ghost use Rattle.price.specs.Ranges.{Both, Within};
 ghost use Rattle.task.specs.NewRows.{row_of};
 
 use crate::branches::Branch;
 use crate::cases::{Column, Leaf};
-use crate::prices::price_of;
-use price::Price;
 use task::{Relation, Row};
 
 // The number at a place, and 0 past the end.
@@ -24,14 +21,14 @@ fn number(list: &[i32], place: usize) -> i32
 }
 
 // The pair of this number in a list of pairs, and (0, 0) past the end.
-fn pair_at(list: &[i32], i: usize) -> Price
+fn pair_at(list: &[i32], i: usize) -> (i64, i64)
     requires { i < 2 ^ 32 }
-    ensures value { pair result ≡ slice_index_or (pairs list.now) i zero }
-    ensures small { Small list.now → Both 67108864 (pair result) }
+    ensures value { result ≡ slice_index_or (pairs list.now) i zero }
+    ensures small { Small list.now → Both 67108864 result }
 {
     let first = number(list, 2 * i);
     let second = number(list, 2 * i + 1);
-    price_of(i64::from(first), i64::from(second))
+    (i64::from(first), i64::from(second))
 }
 
 // The entry of a row of the task.
@@ -75,29 +72,26 @@ fn product(entry: i64, part: i64) -> i64
 }
 
 // An entry times its multiplier.
-fn charge_of(entry: i64, multiplier: Price) -> Price
-    requires { (Within 1048577 entry) × (Both 67108864 (pair multiplier)) }
-    ensures value { pair result ≡ times entry (pair multiplier) }
-    ensures small { Both 70368811286528 (pair result) }
+fn charge_of(entry: i64, multiplier: (i64, i64)) -> (i64, i64)
+    requires { (Within 1048577 entry) × (Both 67108864 multiplier) }
+    ensures value { result ≡ times entry multiplier }
+    ensures small { Both 70368811286528 result }
 {
-    price_of(
-        product(entry, multiplier.cycles()),
-        product(entry, multiplier.reads()),
-    )
+    (product(entry, multiplier.0), product(entry, multiplier.1))
 }
 
 impl Leaf<'_> {
-    pub(crate) fn potential(&self, node: u8) -> Price
-        ensures value { pair result ≡ potential (leaf_held self.now) node }
-        ensures small { Both 67108864 (pair result) }
+    pub(crate) fn potential(&self, node: u8) -> (i64, i64)
+        ensures value { result ≡ potential (leaf_held self.now) node }
+        ensures small { Both 67108864 result }
     {
         pair_at(self.potentials, usize::from(node))
     }
 
-    pub(crate) fn multiplier(&self, row: usize) -> Price
+    pub(crate) fn multiplier(&self, row: usize) -> (i64, i64)
         requires { row < 2 ^ 32 }
-        ensures value { pair result ≡ multiplier (leaf_held self.now) row }
-        ensures small { Both 67108864 (pair result) }
+        ensures value { result ≡ multiplier (leaf_held self.now) row }
+        ensures small { Both 67108864 result }
     {
         pair_at(self.multipliers, row)
     }
@@ -110,9 +104,9 @@ impl Leaf<'_> {
     }
 
     // What all rows charge in a column.
-    pub(crate) fn charge(&self, column: Column) -> Price
-        ensures value { pair result ≡ charged (entries column self.now.claim.task.rows.now self.now.path.now) (leaf_held self.now).multipliers (length self.now.claim.task.rows.now + length self.now.path.now) }
-        ensures small { Both (70368811286528 * 36) (pair result) }
+    pub(crate) fn charge(&self, column: Column) -> (i64, i64)
+        ensures value { result ≡ charged (entries column self.now.claim.task.rows.now self.now.path.now) (leaf_held self.now).multipliers (length self.now.claim.task.rows.now + length self.now.path.now) }
+        ensures small { Both (70368811286528 * 36) result }
     {
         let of_task = self
             .claim
@@ -125,9 +119,9 @@ impl Leaf<'_> {
         let mut reads: i64 = 0;
         for (row, entry) in of_task.chain(of_path).enumerate() {
             let charge = charge_of(entry, self.multiplier(row));
-            cycles += charge.cycles();
-            reads += charge.reads();
+            cycles += charge.0;
+            reads += charge.1;
         }
-        price_of(cycles, reads)
+        (cycles, reads)
     }
 }

@@ -6,8 +6,7 @@ use Rattle.std.proofs.lemmas.List.FromFn.{length-enumerate_from, get_or-enumerat
 use Rattle.std.proofs.lemmas.List.{get_or_default}
 use Rattle.price.specs.Ranges.{Within}
 use Rattle.certificate.specs.Lines.{multiplier}
-use Rattle.price.proofs.PairSums.{parts}
-use Rattle.price.specs.Prices.{pair}
+use Rattle.price.specs.Pairs.{◌⊕◌}
 use Rattle.task.specs.NewRows.{row_of}
 use Rattle.certificate.specs.Columns.{entries, row_entry, branch_entry}
 use Rattle.certificate.specs.Held.{leaf_held}
@@ -46,29 +45,21 @@ charge_of-charge-requires c =
 
 pub loop-row-preserved : goal.loop-row-preserved
 loop-row-preserved c =
-    let at = turn c.before.before.before in
+    let at = turn c.before.before.before.before.before in
     let all = entries c.args.column c.args.self.now.claim.task.rows.now c.args.self.now.path.now in
     let small : Within 1048577 c.in-Some.entry = subst (Within 1048577) (sym at.2) (entry_small c.args.column c.args.self.now.claim.task.rows.now c.args.self.now.path.now (length c.loop-row.yielded)) in
     let e : SFits w64 c.in-Some.entry = omega (arith, ints) in
     let was = simp (c.loop-row.cycles-is, c.loop-row.reads-is) at c.loop-row.invariant in
     let each = c.charge_of-charge.ensures.small in
-    let f : SFits w64 c.cycles-cycles.result = search rules in
-    let g : SFits w64 c.reads-reads.result = search rules in
-    let s : SFits w64 (c.loop-row.cycles +ℤ c.cycles-cycles.result) = omega (arith, ints, was.2) in
-    let t : SFits w64 (c.loop-row.reads +ℤ c.reads-reads.result) = omega (arith, ints, was.2) in
+    let f : SFits w64 c.charge_of-charge.result.0 = omega (arith, ints, each) in
+    let g : SFits w64 c.charge_of-charge.result.1 = omega (arith, ints, each) in
+    let s : SFits w64 (c.loop-row.cycles +ℤ c.charge_of-charge.result.0) = omega (arith, ints, was.2, each) in
+    let t : SFits w64 (c.loop-row.reads +ℤ c.charge_of-charge.result.1) = omega (arith, ints, was.2, each) in
     let charge = simp to_z-of_z at c.charge_of-charge.ensures.value in
-    let more = charged_more all (leaf_held c.args.self.now).multipliers (length c.loop-row.yielded) (c.loop-row.cycles, c.loop-row.reads) (pair c.multiplier.result) c.in-Some.entry was.1 at.2
+    let more = charged_more all (leaf_held c.args.self.now).multipliers (length c.loop-row.yielded) (c.loop-row.cycles, c.loop-row.reads) c.multiplier.result c.in-Some.entry was.1 at.2
     (c.multiplier.ensures.value ∙ ap (λ (k : ℕ). multiplier (leaf_held c.args.self.now) k) at.1) in
     simp (c.loop-row.cycles-is, c.loop-row.reads-is, to_z-of_z, length-append) (
       omega (arith, at.0),
-      parts (λ i. c.loop-row.cycles +ℤ (c.cycles-cycles.ensures ∙ ap (λ p. p.0) charge) i) (λ i. c.loop-row.reads +ℤ (c.reads-reads.ensures ∙ ap (λ p. p.1) charge) i) ∙ more,
-      ((omega (arith, ints, was.2), omega (arith, ints, was.2)), (omega (arith, ints, was.2), omega (arith, ints, was.2))),
+      (λ i. (c.loop-row.cycles, c.loop-row.reads) ⊕ charge i) ∙ more,
+      ((omega (arith, ints, was.2, each), omega (arith, ints, was.2, each)), (omega (arith, ints, was.2, each), omega (arith, ints, was.2, each))),
     )
-
-pub returns-clause-small : goal.returns-clause-small
-returns-clause-small c =
-    let was = simp (c.loop-row.cycles-is, c.loop-row.reads-is) at c.loop-row.invariant in
-    let e = simp (c.loop-row.cycles-is, c.loop-row.reads-is) at c.price_of.ensures in
-    let a : c.price_of.result.cycles ≡ c.loop-row.cycles = ap (λ p. p.0) e in
-    let b : c.price_of.result.reads ≡ c.loop-row.reads = ap (λ p. p.1) e in
-    ((omega (arith, ints, was.2), omega (arith, ints, was.2)), (omega (arith, ints, was.2), omega (arith, ints, was.2)))

@@ -1,6 +1,5 @@
-use Rattle.std.proofs.Common.{◌-ℤ◌, ◌+ℤ◌, ◌∙◌, arith, w64, SFits, rules}
+use Rattle.std.proofs.Common.{◌-ℤ◌, ◌+ℤ◌, ◌∙◌, arith, w64, SFits}
 use Rattle.price.specs.Pairs.{◌⊕◌, ◌⊖◌}
-use Rattle.price.proofs.PairSums.{parts}
 use Rattle.std.proofs.lemmas.Int.{ints, to_z-of_z}
 use Rattle.certificate.proofs.cases.Leaf.level.Goals as goal
 
@@ -9,33 +8,32 @@ price_of-requires c =
     let a = c.potential-before.ensures.small in
     let b = c.potential-after.ensures.small in
     let d = c.charge-charge.ensures.small in
-    let p : SFits w64 (c.cycles.result -ℤ c.cycles-2.result) = omega (arith, ints) in
-    let q : SFits w64 (c.cycles.result -ℤ c.cycles-2.result +ℤ c.cycles-3.result) = omega (arith, ints) in
-    let r : SFits w64 (c.reads.result -ℤ c.reads-2.result) = omega (arith, ints) in
-    let s : SFits w64 (c.reads.result -ℤ c.reads-2.result +ℤ c.reads-3.result) = omega (arith, ints) in
-    let c1 : SFits w64 c.cycles.result = search rules in
-    let c2 : SFits w64 c.cycles-2.result = search rules in
-    let c3 : SFits w64 c.cycles-3.result = search rules in
-    let r1 : SFits w64 c.reads.result = search rules in
-    let r2 : SFits w64 c.reads-2.result = search rules in
-    let r3 : SFits w64 c.reads-3.result = search rules in
-    simp to_z-of_z ((omega (arith, ints), omega (arith, ints)), (omega (arith, ints), omega (arith, ints)))
+    let p : SFits w64 (c.potential-before.result.0 -ℤ c.potential-after.result.0) = omega (arith, ints, a, b) in
+    let q : SFits w64 (c.potential-before.result.0 -ℤ c.potential-after.result.0 +ℤ c.charge-charge.result.0) = omega (arith, ints, a, b, d) in
+    let r : SFits w64 (c.potential-before.result.1 -ℤ c.potential-after.result.1) = omega (arith, ints, a, b) in
+    let s : SFits w64 (c.potential-before.result.1 -ℤ c.potential-after.result.1 +ℤ c.charge-charge.result.1) = omega (arith, ints, a, b, d) in
+    let c1 : SFits w64 c.potential-before.result.0 = omega (arith, ints, a) in
+    let c2 : SFits w64 c.potential-after.result.0 = omega (arith, ints, b) in
+    let c3 : SFits w64 c.charge-charge.result.0 = omega (arith, ints, d) in
+    let r1 : SFits w64 c.potential-before.result.1 = omega (arith, ints, a) in
+    let r2 : SFits w64 c.potential-after.result.1 = omega (arith, ints, b) in
+    let r3 : SFits w64 c.charge-charge.result.1 = omega (arith, ints, d) in
+    simp to_z-of_z ((omega (arith, ints, a, b, d), omega (arith, ints, a, b, d)), (omega (arith, ints, a, b, d), omega (arith, ints, a, b, d)))
 
 pub returns : goal.returns
 returns c =
     let a = c.potential-before.ensures.small in
     let b = c.potential-after.ensures.small in
     let d = c.charge-charge.ensures.small in
-    let p : SFits w64 (c.cycles.result -ℤ c.cycles-2.result) = omega (arith, ints) in
-    let q : SFits w64 (c.cycles.result -ℤ c.cycles-2.result +ℤ c.cycles-3.result) = omega (arith, ints) in
-    let r : SFits w64 (c.reads.result -ℤ c.reads-2.result) = omega (arith, ints) in
-    let s : SFits w64 (c.reads.result -ℤ c.reads-2.result +ℤ c.reads-3.result) = omega (arith, ints) in
-    let c1 : SFits w64 c.cycles.result = search rules in
-    let c2 : SFits w64 c.cycles-2.result = search rules in
-    let c3 : SFits w64 c.cycles-3.result = search rules in
-    let r1 : SFits w64 c.reads.result = search rules in
-    let r2 : SFits w64 c.reads-2.result = search rules in
-    let r3 : SFits w64 c.reads-3.result = search rules in
+    let p : SFits w64 (c.potential-before.result.0 -ℤ c.potential-after.result.0) = omega (arith, ints, a, b) in
+    let q : SFits w64 (c.potential-before.result.0 -ℤ c.potential-after.result.0 +ℤ c.charge-charge.result.0) = omega (arith, ints, a, b, d) in
+    let r : SFits w64 (c.potential-before.result.1 -ℤ c.potential-after.result.1) = omega (arith, ints, a, b) in
+    let s : SFits w64 (c.potential-before.result.1 -ℤ c.potential-after.result.1 +ℤ c.charge-charge.result.1) = omega (arith, ints, a, b, d) in
+    let c1 : SFits w64 c.potential-before.result.0 = omega (arith, ints, a) in
+    let c2 : SFits w64 c.potential-after.result.0 = omega (arith, ints, b) in
+    let c3 : SFits w64 c.charge-charge.result.0 = omega (arith, ints, d) in
+    let r1 : SFits w64 c.potential-before.result.1 = omega (arith, ints, a) in
+    let r2 : SFits w64 c.potential-after.result.1 = omega (arith, ints, b) in
+    let r3 : SFits w64 c.charge-charge.result.1 = omega (arith, ints, d) in
     (simp to_z-of_z at c.price_of.ensures)
-    ∙ parts (λ i. c.cycles.ensures i -ℤ c.cycles-2.ensures i +ℤ c.cycles-3.ensures i) (λ i. c.reads.ensures i -ℤ c.reads-2.ensures i +ℤ c.reads-3.ensures i)
     ∙ (λ i. c.potential-before.ensures.value i ⊖ c.potential-after.ensures.value i ⊕ c.charge-charge.ensures.value i)
