@@ -1,6 +1,8 @@
 -- The sign that a row wants of its multiplier.
 use Rattle.std.proofs.Common.{◌≡◌, ℕ, zero as none, suc, ◌<◌, ◌≤◌, Bool, true, false, cond, List, [], ◌∷◌, ◌++◌, map, length, get_or, refl, le_of_suc-le-suc, not-suc-le-zero}
+use denote.Enum.Bare.{sameb}
 use Rattle.price.specs.Pairs.{Pair, zero}
+use Rattle.task.specs.contracts.rows.Relation as relation
 use Rattle.task.specs.declared.edges.Edge.{Edge}
 use Rattle.task.specs.declared.rows.Relation.{Relation}
 use Rattle.task.specs.declared.rows.Relation.TheVariants.{Below, AtMost, Equal}
@@ -23,10 +25,11 @@ equal_past [] i h = refl
 equal_past (x ∷ rows) none h = absurd (not-suc-le-zero h)
 equal_past (x ∷ rows) (suc i) h = equal_past rows i (le_of_suc-le-suc h)
 
-pub unequal : (x : Relation) → (x ≡ Equal → ⊥) → is_equal x ≡ false
-unequal Below h = refl
-unequal AtMost h = refl
-unequal Equal h = absurd (h refl)
+-- what the code asks of a relation
+pub same_equal : (x : Relation) → sameb relation.the_type x Equal ≡ is_equal x
+same_equal Below = refl
+same_equal AtMost = refl
+same_equal Equal = refl
 
 module _ (le : Pair → Pair → Bool) (es : List Edge) (m : Pair) where
   of_relation : (x : Relation) → sign_ok le x m ≡ cond (is_equal x) true (le zero m)

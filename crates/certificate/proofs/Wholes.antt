@@ -57,8 +57,8 @@ is_tree k n r xs e yes! =
 pub at_front : (edges n : ℕ) (z top : ℤ) (t : Tree) → z ≡ top → range_answer 0 (tests edges top t) ≡ range_answer (n - n) (tests edges z t)
 at_front edges n z top t e = let none : n - n ≡ 0 = omega arith in sym (λ i. range_answer (none i) (tests edges (e i) t))
 
-pub fits_shape : {k l n m r s : ℕ} → k ≡ l → n ≡ m → r ≡ s → (t : Tree) → Fits k n r t → Fits l m s t
-fits_shape {k} {l} {n} {m} {r} {s} p q e t f = subst (λ (i : ℕ). Fits i m s t) p (subst (λ (i : ℕ). Fits k i s t) q (subst (λ (i : ℕ). Fits k n i t) e f))
+pub fits_splits : {k l : ℕ} → k ≡ l → (n r : ℕ) (t : Tree) → Fits k n r t → Fits l n r t
+fits_splits p n r t f = subst (λ (i : ℕ). Fits i n r t) p f
 
 -- the shape of a tree that may prove a claim about the task
 module _ (task : Task) {k n r : ℕ} (o : k ≡ 12) (p : n ≡ node_count task.edges) (q : r ≡ length task.rows) where

@@ -13,6 +13,7 @@ pub(crate) enum Column {
 }
 
 // A leaf under the branches of a path: its number in list order, its scale, and the parts of the list with two numbers for each node and each row.
+// A tariff is lent to each question, and no part of a leaf: it orders prices, whatever the leaf.
 #[derive(Clone, Copy)]
 pub(crate) struct Leaf<'a> {
     pub(crate) claim: Claim<'a>,

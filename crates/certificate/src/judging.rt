@@ -1,4 +1,5 @@
 // A leaf is judged: the signs of its multipliers, its edges, its bound.
+// The loops go by number, since a refusal names numbers.
 ghost use Rattle.std.specs.Prelude.{◌≡◌};
 ghost use Rattle.certificate.specs.Held.{leaf_held, lines_of};
 ghost use Rattle.certificate.specs.Tasks.{task_of};

@@ -1,5 +1,5 @@
 // How the path table goes from record to record.
-ghost use Rattle.std.specs.Prelude.{◌≡◌, ◌<◌, ◌≤◌, [], ◌∷◌, ◌++◌, length};
+ghost use Rattle.std.specs.Prelude.{◌≡◌, ◌<◌, ◌≤◌, [], ◌∷◌, ◌++◌, length, unsigned_abs};
 ghost use Rattle.certificate.specs.Splits.{first_of, onward as onward', branches_of};
 
 use crate::branches::{Branch, Path, Turns};
@@ -29,10 +29,16 @@ impl Path {
     }
 
     // Goes into the first tree of a split.
-    pub(crate) fn push(&mut self, edge: usize, turns: Turns)
-        requires { length (branches_of self.old) < 12 }
-        ensures { branches_of self.new ≡ branches_of self.old ++ first_of edge turns.count ∷ [] }
+    pub(crate) fn push(&mut self, edge: i32, most: i32)
+        requires room { length (branches_of self.old) < 12 }
+        requires few { unsigned_abs most ≤ 1048575 }
+        ensures { branches_of self.new ≡ branches_of self.old ++ first_of (unsigned_abs edge) (unsigned_abs most) ∷ [] }
     {
+        // a cast, since Rust has no `From<u32>` for `usize`
+        let edge = edge.unsigned_abs() as usize;
+        let turns = Turns {
+            count: most.unsigned_abs(),
+        };
         self.branches.push(Branch::AtMost { edge, turns });
     }
 

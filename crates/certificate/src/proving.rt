@@ -49,7 +49,7 @@ fn judge_tree<T: Tariff>(
         top,
     };
     ask_ranges(list, limits, shape)?;
-    judge_list(tariff, claim, list)
+    judge_list(tariff, claim, shape, list)
 }
 
 // The questions of a task before those of the list.

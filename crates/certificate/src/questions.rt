@@ -18,7 +18,7 @@ fn wants_equality(rows: &[Row], i: usize) -> bool
 {
     // two arms: with `is_some_and` the proof did not close
     match rows.get(i) {
-        Some(row) => matches!(row.relation, Relation::Equal),
+        Some(row) => row.relation == Relation::Equal,
         None => false,
     }
 }

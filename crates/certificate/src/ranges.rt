@@ -1,4 +1,5 @@
 // Are the numbers of a tree in range?
+// Each function bounds its own place by what it reads from there on.
 ghost use Rattle.std.specs.Prelude.{◌≡◌, ◌+◌, ◌-◌, ◌^◌, ◌<◌, ◌≤◌, List, ◌++◌, length, position, ℤ, pos};
 ghost use Rattle.certificate.specs.Held.{behind, held, long, rest_held};
 ghost use Rattle.certificate.specs.RangeTests.{exists, far, inside, near, record_tests, tests};
@@ -14,6 +15,7 @@ use price::Refusal;
 // The largest potential and multiplier, 2^26; the smallest is its negative.
 const MAX_NUMBER: i32 = 67_108_864;
 
+// The most turns of an edge, the limit of all turns, here among the signed numbers of a tree.
 const MAX_MOST: i32 = 1_048_575;
 
 // What a tree is asked for: one of so many edges, and a D of at most `top`; its list has `whole` numbers.

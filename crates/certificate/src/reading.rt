@@ -1,4 +1,4 @@
-// A backing tree as a list of numbers, read record by record.
+// A backing tree as a list of numbers, the form in which a claim has it, read record by record.
 ghost use Rattle.std.specs.Prelude.{◌≡◌};
 ghost use Rattle.certificate.specs.Held.{record_held};
 ghost use Rattle.certificate.specs.Reading.{first_record, leaf_after, split_after};

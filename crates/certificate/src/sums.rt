@@ -1,4 +1,5 @@
 // What the rows of a leaf charge: an entry of each times its multiplier, added up.
+// Entries are within 2^20 + 1, multipliers within 2^26: each clause says so of its own parts, since a product's bound is its contract.
 ghost use Rattle.std.specs.Prelude.{◌≡◌, ◌+◌, ◌*◌, ◌^◌, ◌<◌, length, pos, ◌*ℤ◌, slice_index_or};
 ghost use Rattle.certificate.specs.Columns.{charged, entries, row_entry, branch_entry};
 ghost use Rattle.certificate.specs.Held.{leaf_held};
@@ -37,7 +38,7 @@ fn row_entry(row: &Row, column: Column) -> i64
     ensures small { Within 1048577 result }
 {
     match column {
-        Column::Edge { block, .. } => i64::from(number(&row.coefficients, usize::from(block))),
+        Column::Edge { block, .. } => i64::from(row.coefficient(block)),
         Column::Limit => match row.relation {
             Relation::Below => i64::from(row.k) - 1,
             Relation::AtMost | Relation::Equal => i64::from(row.k),

@@ -31,8 +31,8 @@ impl Relation {
 }
 
 impl Row {
-    // The coefficient of a block, 0 past the last one.
-    fn coefficient(&self, block: u8) -> i32
+    /// The coefficient of a block, 0 past the last one.
+    pub fn coefficient(&self, block: u8) -> i32
         ensures { result ≡ coefficient (row_of self.now) block }
     {
         self.coefficients

@@ -8,7 +8,7 @@ use Rattle.certificate.specs.Tasks.{task_of}
 use Rattle.certificate.specs.Verdicts.{before, tree_answer}
 use Rattle.certificate.proofs.Bounds.{bounded}
 use Rattle.certificate.proofs.Outside.{behind_err, behind_ok}
-use Rattle.certificate.proofs.Wholes.{is_tree, at_front, fits_shape, none_answer, some_answer}
+use Rattle.certificate.proofs.Wholes.{is_tree, at_front, fits_splits, none_answer, some_answer}
 use Rattle.certificate.proofs.proving.judge_tree.Goals as goal
 
 pub returns-then-not-is_one_tree : goal.returns-then-not-is_one_tree
@@ -47,13 +47,15 @@ judge_list-requires g c =
     let u = c.ranges.top in
     let same : to_z w32 (of_z w32 c.args.top) ≡ c.args.top = simp to_z-of_z in
     let near = behind_ok _ [] _ (c.in_ok-ask_ranges.ensures t.of [] t.fits (append-nil _ ∙ t.is)) in
-    let first = at_front (length c.args.claim.task.edges.now) (length c.args.list.now) _ c.args.top t.of same ∙ near.0 in
-    record {
-      of = t.of;
-      fits = fits_shape e.splits e.nodes e.rows t.of t.fits;
-      bounded = bounded (length c.args.claim.task.edges.now) c.args.top t.of 0 c.requires first;
-      is = t.is;
-    }
+    let first = at_front (length c.args.claim.task.edges.now) (length c.args.list.now) _ c.args.top t.of same ∙ near.0 in (
+      e.splits,
+      record {
+        of = t.of;
+        fits = fits_splits e.splits c.shape-shape.result.nodes c.shape-shape.result.rows t.of t.fits;
+        bounded = bounded (length c.args.claim.task.edges.now) c.args.top t.of 0 c.requires first;
+        is = t.is;
+      },
+    )
 
 pub returns : goal.returns
 returns g c =
@@ -67,6 +69,6 @@ returns g c =
     let same : to_z w32 (of_z w32 c.args.top) ≡ c.args.top = simp to_z-of_z in
     let near = behind_ok _ [] _ (c.in_ok-ask_ranges.ensures t.of [] t.fits (append-nil _ ∙ t.is)) in
     let first = at_front (length c.args.claim.task.edges.now) (length c.args.list.now) _ c.args.top t.of same ∙ near.0 in
-    c.judge_list.ensures t.of (fits_shape e.splits e.nodes e.rows t.of t.fits) t.is
+    c.judge_list.ensures t.of (fits_splits e.splits c.shape-shape.result.nodes c.shape-shape.result.rows t.of t.fits) t.is
     ∙ sym (some_answer task e.splits e.nodes rows le unit (pair c.args.claim.price) c.args.top c.args.list.now t.of t.read
     ∙ ap (λ a. before a (tree_answer le unit task (pair c.args.claim.price) t.of)) first)

@@ -4,4 +4,4 @@ use Rattle.certificate.proofs.Smalls.{all_small_at}
 use Rattle.certificate.proofs.sums.row_entry.Goals as goal
 
 pub returns-in-Edge-clause-small : goal.returns-in-Edge-clause-small
-returns-in-Edge-clause-small c = omega (arith, ints, all_small_at c.args.row.now.coefficients c.from.result c.args.row.now.all_fit)
+returns-in-Edge-clause-small c = omega (arith, ints, all_small_at c.args.row.now.coefficients c.in-Edge.block c.args.row.now.all_fit)

@@ -6,13 +6,12 @@ use Rattle.certificate.specs.Splits.{branches_of}
 use Rattle.certificate.specs.Tasks.{task_of}
 use Rattle.certificate.specs.Verdicts.{tree_answer}
 use Rattle.certificate.proofs.Ahead.{Standing}
-use Rattle.task.specs.Sides.{node_count}
 use Rattle.certificate.proofs.walking.judge_list.Given as goal
 
 abbrev pub invariant-loop-record : goal.invariant-loop-record
 invariant-loop-record g l =
-    (j : Judgeable (node_count l.claim.task.edges.now) (length l.claim.task.rows.now) l.list)
-    × Standing (node_count l.claim.task.edges.now) (length l.claim.task.rows.now) (g.T.Tariff.le l.tariff) (g.T.Tariff.unit l.tariff) (task_of l.claim.task) (pair l.claim.price) (length l.list)
+    (j : Judgeable l.shape.nodes l.shape.rows l.list)
+    × Standing l.shape.nodes l.shape.rows (g.T.Tariff.le l.tariff) (g.T.Tariff.unit l.tariff) (task_of l.claim.task) (pair l.claim.price) (length l.list)
     (tree_answer (g.T.Tariff.le l.tariff) (g.T.Tariff.unit l.tariff) (task_of l.claim.task) (pair l.claim.price) j.of) (branches_of l.path) l.count l.rest
 
 abbrev pub decreases-loop-record : goal.decreases-loop-record
