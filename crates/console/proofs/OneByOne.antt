@@ -2,7 +2,7 @@
 use Rattle.std.proofs.Common.{◌≢◌, true, false, min, ◌+◌, ◌<◌, ◌≡◌, ℕ, ◌≤◌, List, [], ◌∷◌, ◌++◌, length, sym, refl, ap, ◌∙◌, subst, append_assoc}
 use Rattle.std.proofs.lemmas.List.{append-nil}
 use Rattle.std.specs.List.{AllWithin, HoldsAt}
-use Rattle.judge.specs.Answers.{Said}
+use Rattle.history.specs.Answers.{Said}
 use Rattle.judge.specs.Cases.{Contents}
 use Rattle.console.specs.Judging.{Judged, Replies, Reached}
 use Rattle.console.specs.Lines.{first_line, after_line, lines}

@@ -1,7 +1,7 @@
 -- The line that tells an answer.
 use Rattle.std.specs.Prelude.{ℕ, List, [], ◌∷◌, ◌++◌, ℤ, pos, codes}
 use Rattle.price.specs.Refusals.{refusal_numbers}
-use Rattle.judge.specs.Answers.{Said, number, ends, price, agreed, refused}
+use Rattle.history.specs.Answers.{Said, number, ends, price, agreed, refused}
 use Rattle.grammar.specs.Spelling.{integers}
 
 -- the word and the numbers of each answer

@@ -1,11 +1,11 @@
 // The reply that tells an answer.
 ghost use Rattle.std.specs.Prelude.{◌≡◌, ◌+◌, ◌≤◌, ◌∷◌, [], ◌++◌, length};
 ghost use Rattle.console.specs.Rendering.{rendered};
-ghost use Rattle.judge.specs.Answers.{said};
+ghost use Rattle.history.specs.Answers.{said};
 
 use arrayvec::ArrayString;
+use history::Answer;
 use itoa::{Buffer, Integer};
-use judge::Answer;
 use price::Refusal;
 
 /// No reply is longer.

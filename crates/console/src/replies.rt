@@ -1,11 +1,12 @@
 // The reply of one line.
 ghost use Rattle.std.specs.Prelude.{◌≡◌, ◌<◌, ◌≤◌, length, Ok, Err};
 ghost use Rattle.console.specs.Judging.{Judged, Replied};
-ghost use Rattle.judge.specs.Answers.{said};
+ghost use Rattle.history.specs.Answers.{said};
 
 use crate::answers::{MAX_REPLY, Reply};
 use grammar::{Tables, read};
-use judge::{Answer, Case, perform};
+use history::{Answer, perform};
+use judge::Case;
 use price::{CyclesFirst, Refusal};
 
 // Has the case do what the line asks.

@@ -6,7 +6,7 @@ use Rattle.std.proofs.lemmas.Bool.{cond-true, eqb-true, le-leb, leb-true}
 use Rattle.grammar.specs.Options.{and_then}
 use Rattle.grammar.specs.Numbers.{after, natural_after}
 use Rattle.grammar.specs.Reading.{naturals_front, integers_in, edge_of, edge_in, row_of, row_in, claim_of, claim_in, void_in, alone, either, by_word, request_in}
-use Rattle.judge.specs.Calls.{Request, edge, row, seal, claim, void}
+use Rattle.history.specs.Calls.{Request, edge, row, seal, claim, void}
 use Rattle.grammar.specs.Spelling.{naturals, integers, spelled, Natural, Integer, Within, Spells}
 use Rattle.grammar.proofs.Marks.{never, some_moved, mark_before}
 use Rattle.grammar.proofs.Lines.{one_natural, naturals_sound, naturals_complete, integers_sound, integers_complete, ends_naturals, ends_integers}

@@ -3,7 +3,7 @@ use Rattle.std.specs.Prelude.{ℕ, zero, suc, ◌-◌, cond, List, [], ◌∷◌
 use Rattle.std.specs.Borrow.{Bor}
 use Rattle.grammar.specs.Options.{and_then}
 use Rattle.grammar.specs.Numbers.{after, natural_after, integer_after}
-use Rattle.judge.specs.Calls.{Request, edge, row, seal, claim, void}
+use Rattle.history.specs.Calls.{Request, edge, row, seal, claim, void}
 
 -- just so many numbers, and the text after them
 abbrev pub naturals_front : ℕ → List ℕ → Option (List ℕ × List ℕ)

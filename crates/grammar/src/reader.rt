@@ -3,13 +3,13 @@ ghost use Rattle.std.specs.Prelude.{◌≡◌, Some};
 ghost use Rattle.grammar.specs.Reading.{edge_in, row_in, claim_in, void_in, alone as alone_in, request_in};
 ghost use Rattle.grammar.specs.Room.{Blank};
 ghost use Rattle.grammar.specs.Spelling.{Spells};
-ghost use Rattle.judge.specs.Calls.{Request, request};
+ghost use Rattle.history.specs.Calls.{Request, request};
 ghost use Rattle.std.specs.Option.{option_map};
 
 use crate::list::{MAX_NUMBERS, integers, naturals};
 use crate::number::{after, natural};
 use arrayvec::ArrayVec;
-use judge::Call;
+use history::Call;
 
 // A line is shorter than 4096 bytes.
 const MAX_LENGTH: usize = 4095;

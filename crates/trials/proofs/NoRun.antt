@@ -11,8 +11,8 @@ use Rattle.task.specs.declared.edges.Edge.{Edge}
 use Rattle.judge.specs.Cases.{Contents}
 use Rattle.judge.specs.Drafting.{and_then, taken, edge_answer, edge_kept}
 use Rattle.judge.specs.declared.stages.Stage.TheVariants.{Draft}
-use Rattle.judge.specs.Answers.{number, ends, refused, numbered}
-use Rattle.judge.specs.Calls.{Request, seal, claim}
+use Rattle.history.specs.Answers.{number, ends, refused, numbered}
+use Rattle.history.specs.Calls.{Request, seal, claim}
 use Rattle.trials.specs.Playing.{answers_from}
 use Rattle.trials.specs.Worked.{Costs, an_edge, BalancedButNoRun}
 

@@ -1,7 +1,7 @@
 -- The worked cases of the rules.
 use Rattle.std.specs.Prelude.{ℕ, ◌≤◌, List, [], ◌∷◌, ◌++◌, ℤ, pos, negsuc}
-use Rattle.judge.specs.Answers.{Said, number, ends, price, agreed, refused}
-use Rattle.judge.specs.Calls.{Request, edge, row, seal, claim, void}
+use Rattle.history.specs.Answers.{Said, number, ends, price, agreed, refused}
+use Rattle.history.specs.Calls.{Request, edge, row, seal, claim, void}
 use Rattle.price.specs.Tariffs.{by_cycles, one_read, by_weight, one_cycle}
 use Rattle.price.specs.declared.refusals.Refusal.TheVariants.{Stranded, RowBroken, NotOneTree, TreeRange, AllowanceShort, BoundTooHigh}
 use Rattle.std.specs.List.{AllByRecursion}

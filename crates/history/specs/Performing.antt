@@ -1,7 +1,7 @@
 -- What a call answers, and what the case then holds.
 use Rattle.std.specs.Prelude.{Bool}
-use Rattle.judge.specs.Answers.{Said, numbered, ended, priced, unless_refused}
-use Rattle.judge.specs.Calls.{Request, edge, row, seal, claim, void}
+use Rattle.history.specs.Answers.{Said, numbered, ended, priced, unless_refused}
+use Rattle.history.specs.Calls.{Request, edge, row, seal, claim, void}
 use Rattle.judge.specs.Cases.{Contents}
 use Rattle.judge.specs.Claiming.{claim_answer, claim_kept, void_answer, void_kept}
 use Rattle.judge.specs.Drafting.{edge_answer, edge_kept, row_answer, row_kept, seal_answer, seal_kept}

@@ -1,7 +1,7 @@
 -- What is answered.
 use Rattle.std.specs.Prelude.{ℕ, Ok, Err, Result}
-use Rattle.judge.specs.declared.calls.Answer.{Answer}
-use Rattle.judge.specs.declared.calls.Answer.TheVariants.{Number, Ends, Price, Agreed}
+use Rattle.history.specs.declared.calls.Answer.{Answer}
+use Rattle.history.specs.declared.calls.Answer.TheVariants.{Number, Ends, Price, Agreed}
 use Rattle.price.specs.Pairs.{Pair}
 use Rattle.price.specs.Prices.{pair}
 use Rattle.price.specs.declared.refusals.Refusal.{Refusal}

@@ -1,11 +1,11 @@
 // Any call, by one function.
 ghost use Rattle.std.specs.Prelude.{◌≡◌};
-ghost use Rattle.judge.specs.Answers.{said};
-ghost use Rattle.judge.specs.Calls.{request};
-ghost use Rattle.judge.specs.Performing.{after, answered};
+ghost use Rattle.history.specs.Answers.{said};
+ghost use Rattle.history.specs.Calls.{request};
+ghost use Rattle.history.specs.Performing.{after, answered};
 
 use crate::calls::{Answer, Call};
-use crate::case::Case;
+use judge::Case;
 use price::{Refusal, Tariff};
 
 /// Has the case do what is asked under this tariff, and answers what it answered.

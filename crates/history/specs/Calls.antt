@@ -1,7 +1,7 @@
 -- What is asked of a case.
 use Rattle.std.specs.Prelude.{ℕ, List, ℤ}
-use Rattle.judge.specs.declared.calls.Call.{Call}
-use Rattle.judge.specs.declared.calls.Call.TheVariants.{Edge, Row, Seal, Claim, Void}
+use Rattle.history.specs.declared.calls.Call.{Call}
+use Rattle.history.specs.declared.calls.Call.TheVariants.{Edge, Row, Seal, Claim, Void}
 
 -- a call, by its numbers and lists
 pub data Request : Type 0 where
