@@ -19,5 +19,5 @@ module _ (le : Pair → Pair → Bool) (unit : Pair) where
   after c (edge tail head block cycles reads) = edge_kept (edge_answer c tail head block cycles reads) c tail head block cycles reads
   after c (row relation k coefficients) = row_kept (row_answer c relation k coefficients) c relation k coefficients
   after c seal = seal_kept (seal_answer c) c
-  after c (claim turns tree) = claim_kept (claim_answer le unit c turns tree) c
+  after c (claim turns tree) = claim_kept (claim_answer le unit c turns tree) c turns
   after c (void tree) = void_kept (void_answer le unit c tree) c

@@ -1,11 +1,15 @@
 -- What an accepted claim and an accepted void claim say.
-use Rattle.std.proofs.Common.{◌≡◌, ℕ, Bool, true, List, ℤ, pos, Ok, Err, sum, Result, sym, refl, ap, ◌∙◌, subst, arith}
+use Rattle.std.proofs.Common.{◌≡◌, ℕ, ◌≤◌, Bool, true, List, length, ℤ, pos, IfOk, Ok, Err, sum, Result, sym, refl, ap, ◌∙◌, subst, arith}
+use Rattle.std.proofs.ByRecursion.{All-from_get_or, sum_by_le}
 use Rattle.std.proofs.lemmas.Bool.Decides.{nat_tests}
 use Rattle.std.specs.List.{AllByRecursion}
 use Rattle.price.specs.Laws.{Laws}
 use Rattle.price.specs.Pairs.{Pair, zero}
+use Rattle.price.specs.Prices.{pair}
+use Rattle.price.specs.declared.prices.Price.{Price}
 use Rattle.price.specs.declared.refusals.Refusal.{Refusal}
 use Rattle.task.specs.EndsAnswer.{ends_answer}
+use Rattle.task.specs.NewRows.{mapped}
 use Rattle.task.specs.Rows.{Row, Keeps}
 use Rattle.task.specs.Sealing.{Ends}
 use Rattle.task.specs.Turns.{price_of}
@@ -22,6 +26,7 @@ use Rattle.walk.specs.Rule.{next}
 use Rattle.walk.specs.Walks.{walk}
 use Rattle.walk.proofs.Rule.{walk_stands}
 use Rattle.judge.specs.Claiming.{Accepted, Voided, task_between, claim_on}
+use Rattle.judge.specs.Counts.{Few}
 use Rattle.judge.specs.Drafting.{and_then}
 use Rattle.judge.specs.Stages.{answers_ends, stage_ends_hold}
 use Rattle.judge.specs.declared.stages.Stage.{Stage}
@@ -61,11 +66,13 @@ module _ (le : Pair → Pair → Bool) (unit : Pair) (laws : Laws le unit) (es :
         ends = ends;
         sound = sound;
         price = sym passed.2;
-        run = walk es (next es ts e) (sum ts) ts s;
-        keeps = record { is_run = whole.is_run; keeps = subst (λ turns. AllByRecursion (Keeps es turns) rows) (sym whole.exact) sound.keeps };
+        greatest = record {
+          run = walk es (next es ts e) (sum ts) ts s;
+          keeps = record { is_run = whole.is_run; keeps = subst (λ turns. AllByRecursion (Keeps es turns) rows) (sym whole.exact) sound.keeps };
+          price = ap (price_of es) whole.exact ∙ passed.2;
+          none_dearer = subst (NoneDearer le task) passed.2 none_dearer;
+        };
         claimed = whole.exact;
-        has_price = ap (price_of es) whole.exact ∙ passed.2;
-        none_dearer = subst (NoneDearer le task) passed.2 none_dearer;
       }
 
   pub void_between : (xs : List ℤ) (s e : ℕ) → Ends es s e → verdicts.void_answer le unit (task_between es rows s e) xs ≡ Ok tt → Voided es rows
@@ -77,3 +84,15 @@ module _ (le : Pair → Pair → Bool) (unit : Pair) (laws : Laws le unit) (es :
         ends = ends;
         no_run = void_sound le unit task zero xs laws _ (judged le unit task zero (pos 0) xs) is (record { start = ends.start; end = ends.end });
       }
+
+-- the turns of a claim that passed are few
+pub few_turns : (le : Pair → Pair → Bool) (unit : Pair) (es : List Edge) (rows : List Row) (s e : ℕ) (ts : List ℕ) (xs : List ℤ) (r : Result Price Refusal) → length es ≤ 64 →
+    mapped pair r ≡ claim_on le unit (task_between es rows s e) ts xs → IfOk r (λ _. Few ts)
+few_turns le unit es rows s e ts xs (Ok p) few is =
+    let task = task_between es rows s e in
+    let passed = both (turns_answer es rows s e ts) (verdicts.price_answer le unit task (price_of es ts) xs) (price_of es ts) (pair p) (sym is) in
+    let sound = (exactly_sound es rows s e ts (turns_answer es rows s e ts) (answers es rows s e ts (turns_answer es rows s e ts) refl)).0 passed.0 in
+    let each : AllByRecursion (λ t. t ≤ 1048575) ts = All-from_get_or (λ t. t ≤ 1048575) ts 0 (λ i low. sound.few i (omega (arith, sound.sized))) in
+    let long : length ts ≤ 64 = omega (arith, sound.sized) in
+    record { edges = long; turns = omega (arith, sum_by_le (λ t. t) 1048575 ts each) }
+few_turns le unit es rows s e ts xs (Err refusal) few is = tt

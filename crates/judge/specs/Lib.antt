@@ -1,4 +1,7 @@
 pub mod Stages
+pub mod Counts
 pub mod Cases
+pub mod Reports
 pub mod Drafting
 pub mod Claiming
+pub mod Handing

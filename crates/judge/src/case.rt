@@ -3,9 +3,10 @@ ghost use Rattle.std.specs.Prelude.{◌≡◌, ◌≤◌, true, length};
 ghost use Rattle.judge.specs.Cases.{Contents, contents, IsCase};
 ghost use Rattle.judge.specs.Stages.{stage_ends_hold};
 
+use crate::counts::Turns;
 use crate::stages::Stage;
 use std::marker::Model;
-use task::{Edge, Row};
+use task::{Edge, NODES, Row};
 
 /// One task: its edges, its rows and its stage. The lists have room for all that they may hold,
 /// so no call on a case wants memory.
@@ -14,15 +15,18 @@ pub struct Case {
     pub(crate) stage: Stage,
     pub(crate) edges: Vec<Edge>,
     pub(crate) rows: Vec<Row>,
+    // of a certified claim: the last exit of every node, and the turns left of every edge; beside the stage, which each call copies
+    pub(crate) exits: [usize; NODES],
+    pub(crate) left: Turns,
 }
 
 /// In a contract a case is its contents.
 impl Model for Case {
     ghost Value = { Contents };
 
-    ghost view = { λ case. contents case.stage case.edges case.rows };
+    ghost view = { λ case. contents case.stage case.edges case.rows case.exits case.left.items };
 
-    ghost invariant = { λ case. IsCase case.stage case.edges case.rows };
+    ghost invariant = { λ case. IsCase case.stage case.edges case.rows case.exits case.left.items };
 }
 
 impl Case {

@@ -3,8 +3,12 @@
 
 mod case;
 mod claiming;
+mod counts;
 mod drafting;
+mod handing;
+mod reports;
 mod stages;
 
 pub use case::Case;
+pub use reports::Report;
 pub use stages::Stage;
