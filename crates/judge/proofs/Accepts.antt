@@ -12,7 +12,8 @@ use Rattle.task.specs.EndsAnswer.{ends_answer}
 use Rattle.task.specs.NewRows.{mapped}
 use Rattle.task.specs.Rows.{Row, Keeps}
 use Rattle.task.specs.Sealing.{Ends}
-use Rattle.task.specs.Turns.{price_of}
+use Rattle.task.specs.Sound.{Sound}
+use Rattle.task.specs.Turns.{price_of, turns_in}
 use Rattle.task.specs.TurnsAnswer.{turns_answer}
 use Rattle.task.specs.declared.edges.Edge.{Edge}
 use Rattle.task.proofs.Checks.{answers, exactly as exactly_sound}
@@ -25,7 +26,7 @@ use Rattle.certificate.proofs.Proves.{judged, price_sound, void_sound}
 use Rattle.walk.specs.Rule.{next}
 use Rattle.walk.specs.Walks.{walk}
 use Rattle.walk.proofs.Rule.{walk_stands}
-use Rattle.judge.specs.Claiming.{Accepted, Voided, task_between, claim_on}
+use Rattle.judge.specs.Claiming.{Greatest, Accepted, Voided, task_between, claim_on}
 use Rattle.judge.specs.Counts.{Few}
 use Rattle.judge.specs.Drafting.{and_then}
 use Rattle.judge.specs.Stages.{answers_ends, stage_ends_hold}
@@ -53,17 +54,21 @@ both (Ok _) (Err refusal) c p is = never p refusal is
 both (Err refusal) b c p is = never p refusal is
 
 module _ (le : Pair → Pair → Bool) (unit : Pair) (laws : Laws le unit) (es : List Edge) (rows : List Row) where
-  pub claim_between : (ts : List ℕ) (xs : List ℤ) (s e : ℕ) (p : Pair) → Ends es s e → claim_on le unit (task_between es rows s e) ts xs ≡ Ok p → Accepted le es rows ts p
-  claim_between ts xs s e p ends is =
+  -- what a claim that passes between two ends shows
+  pub record Passed (s e : ℕ) (ts : List ℕ) (p : Pair) : Type 0 where
+    pub sound : Sound es rows s e ts
+    pub price : p ≡ price_of es ts
+    pub greatest : Greatest le es rows p
+    pub claimed : turns_in es greatest.run ≡ ts
+
+  pub between : (ts : List ℕ) (xs : List ℤ) (s e : ℕ) (p : Pair) → Ends es s e → claim_on le unit (task_between es rows s e) ts xs ≡ Ok p → Passed s e ts p
+  between ts xs s e p ends is =
       let task = task_between es rows s e in
       let passed = both (turns_answer es rows s e ts) (verdicts.price_answer le unit task (price_of es ts) xs) (price_of es ts) p is in
       let sound = (exactly_sound es rows s e ts (turns_answer es rows s e ts) (answers es rows s e ts (turns_answer es rows s e ts) refl)).0 passed.0 in
       let none_dearer = price_sound le unit task (price_of es ts) (pos 1000) xs laws _ (judged le unit task (price_of es ts) (pos 1000) xs) passed.1 (record { start = ends.start; end = ends.end }) in
       let whole = (walk_stands es s e ts ends (claims es rows s e ts sound ends)).whole in
       record {
-        start = s;
-        end = e;
-        ends = ends;
         sound = sound;
         price = sym passed.2;
         greatest = record {
@@ -74,6 +79,11 @@ module _ (le : Pair → Pair → Bool) (unit : Pair) (laws : Laws le unit) (es :
         };
         claimed = whole.exact;
       }
+
+  pub claim_between : (ts : List ℕ) (xs : List ℤ) (s e : ℕ) (p : Pair) → Ends es s e → claim_on le unit (task_between es rows s e) ts xs ≡ Ok p → Accepted le es rows ts p
+  claim_between ts xs s e p ends is =
+      let passed = between ts xs s e p ends is in
+      record { start = s; end = e; ends = ends; sound = passed.sound; price = passed.price; greatest = passed.greatest; claimed = passed.claimed }
 
   pub void_between : (xs : List ℤ) (s e : ℕ) → Ends es s e → verdicts.void_answer le unit (task_between es rows s e) xs ≡ Ok tt → Voided es rows
   void_between xs s e ends is =
