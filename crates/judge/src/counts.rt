@@ -6,7 +6,7 @@ ghost use Rattle.walk.specs.Walks.{one_less};
 use arrayvec::ArrayVec;
 use task::{Edge, MAX_EDGES};
 
-/// As many turns as a case has edges at most; judging takes no memory for them.
+// They lie in the case itself, since no call on a case takes memory.
 pub(crate) type Turns = ArrayVec<u32, MAX_EDGES>;
 
 // All turns together.

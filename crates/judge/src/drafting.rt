@@ -6,8 +6,8 @@ ghost use Rattle.judge.specs.Stages.{draft};
 ghost use Rattle.task.specs.Sealing.{EveryEdge, Sealed};
 
 use crate::case::Case;
+use crate::counts::Turns;
 use crate::stages::Stage;
-use arrayvec::ArrayVec;
 use price::Refusal;
 use std::alloc::{AllocError, Global};
 use task::{Edge, MAX_EDGES, MAX_ROWS, NODES, Row, ends, repeats};
@@ -24,7 +24,7 @@ impl Case {
             edges,
             rows,
             exits: [0; NODES],
-            left: ArrayVec::new(),
+            left: Turns::new(),
         })
     }
 
