@@ -14,8 +14,10 @@ use std::alloc::Global;
 use std::fs;
 use std::io::Write;
 
-const SESSIONS: [&str; 6] = [
+const SESSIONS: [&str; 8] = [
+    "drafting.txt",
     "retry-loop.txt",
+    "exit-set-aside.txt",
     "half-integral-row.txt",
     "balanced-but-no-run.txt",
     "no-run.txt",
