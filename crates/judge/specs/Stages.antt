@@ -50,3 +50,10 @@ stage_ends_hold Draft edges = true
 stage_ends_hold (Sealed start end) edges = answers_ends (ends_answer edges) start end
 stage_ends_hold (Certified start end price all at) edges = answers_ends (ends_answer edges) start end
 stage_ends_hold (Void start end) edges = answers_ends (ends_answer edges) start end
+
+-- the same of a stage as the contents of a case have it
+abbrev pub ends_held : Stage → List Edge → Bool
+ends_held draft edges = true
+ends_held (sealed start end) edges = answers_ends (ends_answer edges) start end
+ends_held (certified start end price walk) edges = answers_ends (ends_answer edges) start end
+ends_held (void start end) edges = answers_ends (ends_answer edges) start end

@@ -1,7 +1,7 @@
 // The record of a case.
 ghost use Rattle.std.specs.Prelude.{◌≡◌, ◌≤◌, true, length};
 ghost use Rattle.judge.specs.Cases.{Contents, contents, IsCase};
-ghost use Rattle.judge.specs.Stages.{stage_ends_hold};
+ghost use Rattle.judge.specs.Stages.{ends_held};
 
 use crate::counts::Turns;
 use crate::stages::Stage;
@@ -34,7 +34,7 @@ impl Case {
     pub fn keeps_limits(&self)
         ensures few_edges { length self.now.edges ≤ 64 }
         ensures few_rows { length self.now.rows ≤ 24 }
-        ensures ends_hold { stage_ends_hold self.now.stage self.now.edges ≡ true }
+        ensures ends_hold { ends_held self.now.stage self.now.edges ≡ true }
     {
         // the facts of a case are known once a field of it is touched
         let _ = &self.stage;
