@@ -4,6 +4,8 @@ ghost use Rattle.console.specs.Rendering.{rendered};
 ghost use Rattle.grammar.specs.Spelling.{integers};
 ghost use Rattle.history.specs.Answers.{said, told};
 ghost use Rattle.judge.specs.Reports.{shown};
+ghost use Rattle.price.specs.Ranges.{Part};
+ghost use Rattle.std.specs.Fmt.{signed_decimal};
 
 use arrayvec::ArrayString;
 use history::Answer;
@@ -42,16 +44,26 @@ impl Reply {
         self
     }
 
-    // The reply with the cycles and the reads of a price more. Each takes at most 18 bytes, where any `i64` may take 21.
+    // The reply with a part of a price more: at most 18 bytes, where any `i64` may take 21.
+    fn part(self, part: i64) -> Reply
+        requires { (length self.text.bytes + 21 ≤ 64) × Part part }
+        ensures text { result.text.bytes ≡ self.text.bytes ++ (32 ∷ signed_decimal part) }
+        ensures short { length result.text.bytes ≤ length self.text.bytes + 18 }
+    {
+        self.number(part)
+    }
+
+    // The reply with the cycles and the reads of a price more.
     fn price(self, price: Price) -> Reply
         requires { length self.text.bytes + 39 ≤ 64 }
         ensures text { result.text.bytes ≡ self.text.bytes ++ integers (price.cycles ∷ price.reads ∷ []) }
         ensures short { length result.text.bytes ≤ length self.text.bytes + 36 }
     {
-        self.number(price.cycles()).number(price.reads())
+        self.part(price.cycles()).part(price.reads())
     }
 
     // The stage of a case, its price and its counts; only a certified case has any. The feed is yet to come.
+    #[tactic(auto, using(crate::proofs::Telling::idle_told, crate::proofs::Telling::certified_told))]
     fn told(report: Report) -> Reply
         ensures text { result.text.bytes ++ (10 ∷ []) ≡ rendered (told (shown report)) }
         ensures short { length result.text.bytes ≤ 63 }
