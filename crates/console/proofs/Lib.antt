@@ -1,2 +1,5 @@
+pub mod Lengths
+pub mod Telling
 pub mod Feeds
 pub mod OneByOne
+pub mod Ruled

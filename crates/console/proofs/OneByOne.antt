@@ -1,8 +1,8 @@
 -- One line more.
 use Rattle.std.proofs.Common.{◌≢◌, true, false, min, ◌+◌, ◌<◌, ◌≡◌, ℕ, ◌≤◌, List, [], ◌∷◌, ◌++◌, length, sym, refl, ap, ◌∙◌, subst, append_assoc}
-use Rattle.std.proofs.lemmas.List.{append-nil}
+use Rattle.std.proofs.lemmas.List.{append-nil, nil_from_length}
 use Rattle.std.specs.List.{AllWithin, HoldsAt}
-use Rattle.judge.specs.Answers.{Said}
+use Rattle.history.specs.Answers.{Said}
 use Rattle.judge.specs.Cases.{Contents}
 use Rattle.console.specs.Judging.{Judged, Replies, Reached}
 use Rattle.console.specs.Lines.{first_line, after_line, lines}
@@ -51,3 +51,9 @@ pub piece_done : (held between kept : Contents) (texts : List (List ℕ)) (text 
 piece_done held between kept texts text piece more line bytes new answer i whole long first some front own reached judged joined =
     reached_more held between kept texts text line more bytes new answer reached some
     (line_before text piece more i whole long first.0 first.1 line front own) (more_after text piece more i whole long first.0 first.1) judged joined
+
+-- nothing of the text is left
+pub all_replied : (held kept : Contents) (texts : List (List ℕ)) (text bytes : List ℕ) → Reached held texts (lines text) bytes kept → length text ≡ 0 → Replies held texts bytes kept
+all_replied held kept texts text bytes reached none =
+    let left : text ≡ [] = nil_from_length text none in
+    subst (λ ls. Replies held ls bytes kept) (sym (append-nil reached.done) ∙ ap (λ rest. reached.done ++ lines rest) (sym left) ∙ reached.split) reached.replies

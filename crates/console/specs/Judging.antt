@@ -4,10 +4,10 @@ use Rattle.std.specs.declared.alloc.AllocError.{AllocError}
 use Rattle.price.specs.declared.refusals.Refusal.{Refusal}
 use Rattle.price.specs.declared.refusals.Refusal.TheVariants.{LineForm}
 use Rattle.price.specs.Tariffs.{by_cycles, one_read}
-use Rattle.judge.specs.Answers.{Said, refused}
-use Rattle.judge.specs.Calls.{Request}
+use Rattle.history.specs.Answers.{Said, refused}
+use Rattle.history.specs.Calls.{Request}
 use Rattle.judge.specs.Cases.{Contents}
-use Rattle.judge.specs.Performing.{answered, after}
+use Rattle.history.specs.Performing.{answered, after}
 use Rattle.grammar.specs.Spelling.{Spells}
 use Rattle.console.specs.Rendering.{rendered}
 

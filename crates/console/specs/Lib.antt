@@ -1,3 +1,4 @@
 pub mod Rendering
 pub mod Lines
 pub mod Judging
+pub mod Histories

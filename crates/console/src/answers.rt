@@ -1,12 +1,17 @@
 // The reply that tells an answer.
 ghost use Rattle.std.specs.Prelude.{◌≡◌, ◌+◌, ◌≤◌, ◌∷◌, [], ◌++◌, length};
 ghost use Rattle.console.specs.Rendering.{rendered};
-ghost use Rattle.judge.specs.Answers.{said};
+ghost use Rattle.grammar.specs.Spelling.{integers};
+ghost use Rattle.history.specs.Answers.{said, told};
+ghost use Rattle.judge.specs.Reports.{shown};
+ghost use Rattle.price.specs.Ranges.{Part};
+ghost use Rattle.std.specs.Fmt.{signed_decimal};
 
 use arrayvec::ArrayString;
+use history::Answer;
 use itoa::{Buffer, Integer};
-use judge::Answer;
-use price::Refusal;
+use judge::Report;
+use price::{Price, Refusal};
 
 /// No reply is longer.
 pub(crate) const MAX_REPLY: usize = 64;
@@ -18,9 +23,9 @@ pub(crate) struct Reply {
 }
 
 impl Reply {
-    // A reply of a word alone.
+    // A reply of a word alone, or of a text that begins a reply.
     fn word(word: &str) -> Reply
-        requires { length word.now ≤ 2 }
+        requires { length word.now ≤ 12 }
         ensures { result.text.bytes ≡ word.now }
     {
         let mut text = ArrayString::new();
@@ -39,6 +44,41 @@ impl Reply {
         self
     }
 
+    // The reply with a part of a price more: at most 18 bytes, where any `i64` may take 21.
+    fn part(self, part: i64) -> Reply
+        requires { (length self.text.bytes + 21 ≤ 64) × Part part }
+        ensures text { result.text.bytes ≡ self.text.bytes ++ (32 ∷ signed_decimal part) }
+        ensures short { length result.text.bytes ≤ length self.text.bytes + 18 }
+    {
+        self.number(part)
+    }
+
+    // The reply with the cycles and the reads of a price more.
+    fn price(self, price: Price) -> Reply
+        requires { length self.text.bytes + 39 ≤ 64 }
+        ensures text { result.text.bytes ≡ self.text.bytes ++ integers (price.cycles ∷ price.reads ∷ []) }
+        ensures short { length result.text.bytes ≤ length self.text.bytes + 36 }
+    {
+        self.part(price.cycles()).part(price.reads())
+    }
+
+    // The stage of a case, its price and its counts; only a certified case has any. The feed is yet to come.
+    #[tactic(auto, using(crate::proofs::Telling::idle_told, crate::proofs::Telling::certified_told))]
+    fn told(report: Report) -> Reply
+        ensures text { result.text.bytes ++ (10 ∷ []) ≡ rendered (told (shown report)) }
+        ensures short { length result.text.bytes ≤ 63 }
+    {
+        match report {
+            Report::Draft => Reply::word("ok 0 0 0 0 0"),
+            Report::Sealed => Reply::word("ok 1 0 0 0 0"),
+            Report::Certified { price, steps, left } => Reply::word("ok 2")
+                .price(price)
+                .number(steps)
+                .number(left),
+            Report::Void => Reply::word("ok 3 0 0 0 0"),
+        }
+    }
+
     // The reply with a line feed at its end.
     fn ended(mut self) -> Reply
         requires { length self.text.bytes + 1 ≤ 64 }
@@ -55,11 +95,11 @@ impl Reply {
         match outcome {
             Ok(Answer::Number(n)) => Reply::word("ok").number(n).ended(),
             Ok(Answer::Ends(start, end)) => Reply::word("ok").number(start).number(end).ended(),
-            Ok(Answer::Price(price)) => Reply::word("ok")
-                .number(price.cycles())
-                .number(price.reads())
-                .ended(),
+            Ok(Answer::Price(price)) => Reply::word("ok").price(price).ended(),
+            Ok(Answer::Next(edge)) => Reply::word("ok").number(edge).ended(),
+            Ok(Answer::Done) => Reply::word("ok done").ended(),
             Ok(Answer::Agreed) => Reply::word("ok").ended(),
+            Ok(Answer::Told(report)) => Reply::told(report).ended(),
             Err(refusal) => {
                 let (question, first, second) = refusal.numbers();
                 Reply::word("no")

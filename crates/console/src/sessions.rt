@@ -1,5 +1,6 @@
 // A text of many lines.
-ghost use Rattle.std.specs.Prelude.{◌≡◌, ◌≢◌, ℕ, List, [], ◌∷◌, ◌++◌, MatchResult};
+ghost use Rattle.std.specs.Prelude.{◌≡◌, ◌≢◌, ℕ, List, [], ◌∷◌, ◌++◌, IfOk, MatchResult};
+ghost use Rattle.console.specs.Histories.{KeepsOn};
 ghost use Rattle.console.specs.Judging.{Pushed, Replies, Stopped};
 ghost use Rattle.console.specs.Lines.{lines};
 
@@ -30,10 +31,11 @@ fn push_reply(
     replies.extend_from_slice(reply.as_bytes())
 }
 
-/// Has the case do what each line of the text asks, judged cycles first, and answers the replies, one after the other.
-/// Without memory for a reply it stops after that line.
+/// Has the case do what each line of the text asks, judged cycles first, and answers the replies, one after the other:
+/// with all calls before, those of the lines and their answers keep the rules. Without memory for a reply it stops after that line.
 pub fn session(heap: Global, case: &mut Case, text: &[u8]) -> Result<Vec<u8>, AllocError>
-    ensures { MatchResult result (λ v. Replies case.old (lines text.now) v.items case.new) (λ _. Stopped case.old (lines text.now) case.new) }
+    ensures replies { MatchResult result (λ v. Replies case.old (lines text.now) v.items case.new) (λ _. Stopped case.old (lines text.now) case.new) }
+    ensures rules { IfOk result (λ v. KeepsOn case.old (lines text.now) v.items case.new) }
 {
     let mut replies = Vec::new(heap);
     let mut tables = Tables::new();

@@ -5,8 +5,8 @@ use Rattle.std.proofs.lemmas.List.{append-nil, nil_from_length}
 use Rattle.std.proofs.lemmas.Bool.{cond-true, eqb-true, le-leb, leb-true}
 use Rattle.grammar.specs.Options.{and_then}
 use Rattle.grammar.specs.Numbers.{after, natural_after}
-use Rattle.grammar.specs.Reading.{naturals_front, integers_in, edge_of, edge_in, row_of, row_in, claim_of, claim_in, void_in, alone, either, by_word, request_in}
-use Rattle.judge.specs.Calls.{Request, edge, row, seal, claim, void}
+use Rattle.grammar.specs.Reading.{naturals_front, integers_in, edge_of, edge_in, row_of, row_in, claim_of, claim_in, void_in, alone, either, bare_call, by_word, request_in}
+use Rattle.history.specs.Calls.{Request, edge, row, seal, claim, void, step, withdraw, told}
 use Rattle.grammar.specs.Spelling.{naturals, integers, spelled, Natural, Integer, Within, Spells}
 use Rattle.grammar.proofs.Marks.{never, some_moved, mark_before}
 use Rattle.grammar.proofs.Lines.{one_natural, naturals_sound, naturals_complete, integers_sound, integers_complete, ends_naturals, ends_integers}
@@ -104,15 +104,26 @@ either_sound word line read other q None this next e h = next h
 either_sound word line read other q (Some text) this next e h =
     let s = this text h in (s.0, s.1 ∙ mark_before word line text e)
 
+bare_or : (word line : List ℕ) (own q : Request) (other : Option Request) → Right word own → (other ≡ Some q → Right line q) →
+    either (after word line) (alone own) other ≡ Some q → Right line q
+bare_or word line own q other right next =
+    either_sound word line (alone own) other q (after word line) (λ text. alone_sound text q word own right) next refl
+
+bare_sound : (line : List ℕ) (q : Request) → bare_call line ≡ Some q → Right line q
+bare_sound line q =
+    bare_or (codes "seal") line seal q _ (tt, refl)
+    (bare_or (codes "step") line step q _ (tt, refl)
+    (bare_or (codes "withdraw") line withdraw q _ (tt, refl)
+    (bare_or (codes "told") line told q None (tt, refl) (λ h. never q h))))
+
 word_sound : (line : List ℕ) (q : Request) → by_word line ≡ Some q → Right line q
 word_sound line q =
     either_sound (codes "edge") line edge_in _ q (after (codes "edge") line) (λ text. edge_sound text q (naturals_front 5 text) refl)
     (either_sound (codes "row") line row_in _ q (after (codes "row") line) (λ text. row_sound text q (integers_in 512 text) refl)
-    (either_sound (codes "seal") line (alone seal) _ q (after (codes "seal") line) (λ text. alone_sound text q (codes "seal") seal (tt, refl))
     (either_sound (codes "claim") line claim_in _ q (after (codes "claim") line) (λ text. claim_sound text q (natural_after text) refl)
-    (either_sound (codes "void") line void_in None q (after (codes "void") line) (λ text. void_sound text q (integers_in 512 text) refl)
-    (λ h. never q h)
-    refl) refl) refl) refl) refl
+    (either_sound (codes "void") line void_in _ q (after (codes "void") line) (λ text. void_sound text q (integers_in 512 text) refl)
+    (bare_sound line q)
+    refl) refl) refl) refl
 
 -- from a request to what is read
 
@@ -135,6 +146,9 @@ word_complete (row relation k zs) small = ap (λ o. and_then o row_of) (integers
 word_complete seal small = refl
 word_complete (claim turns tree) small = claim_complete turns tree small.0 small.1 small.2
 word_complete (void tree) small = ap (λ o. and_then o (λ tree. Some (void tree))) (integers_complete 512 tree small.0 small.1)
+word_complete step small = refl
+word_complete withdraw small = refl
+word_complete told small = refl
 
 -- the same within the length of a line
 

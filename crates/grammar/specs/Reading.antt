@@ -3,7 +3,7 @@ use Rattle.std.specs.Prelude.{ℕ, zero, suc, ◌-◌, cond, List, [], ◌∷◌
 use Rattle.std.specs.Borrow.{Bor}
 use Rattle.grammar.specs.Options.{and_then}
 use Rattle.grammar.specs.Numbers.{after, natural_after, integer_after}
-use Rattle.judge.specs.Calls.{Request, edge, row, seal, claim, void}
+use Rattle.history.specs.Calls.{Request, edge, row, seal, claim, void, step, withdraw, told}
 
 -- just so many numbers, and the text after them
 abbrev pub naturals_front : ℕ → List ℕ → Option (List ℕ × List ℕ)
@@ -60,13 +60,20 @@ abbrev pub either : Option (List ℕ) → (List ℕ → Option Request) → Opti
 either None read other = other
 either (Some text) read other = read text
 
+-- those that stand alone
+abbrev pub bare_call : List ℕ → Option Request
+bare_call line =
+    either (after (codes "seal") line) (alone seal)
+    (either (after (codes "step") line) (alone step)
+    (either (after (codes "withdraw") line) (alone withdraw)
+    (either (after (codes "told") line) (alone told) None)))
+
 abbrev pub by_word : List ℕ → Option Request
 by_word line =
     either (after (codes "edge") line) edge_in
     (either (after (codes "row") line) row_in
-    (either (after (codes "seal") line) (alone seal)
     (either (after (codes "claim") line) claim_in
-    (either (after (codes "void") line) void_in None))))
+    (either (after (codes "void") line) void_in (bare_call line))))
 
 abbrev pub request_in : List ℕ → Option Request
 request_in line = cond (nat_le (length line) 4095) (by_word line) None

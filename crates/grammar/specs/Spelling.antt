@@ -2,7 +2,7 @@
 use Rattle.std.specs.Prelude.{◌≡◌, ℕ, ◌+◌, ◌<◌, ◌≤◌, List, [], ◌∷◌, ◌++◌, length, ℤ, pos, neg_ℤ, ◌≤ℤ◌, ◌<ℤ◌, codes, decimal}
 use Rattle.std.specs.Fmt.{signed_decimal}
 use Rattle.std.specs.List.{AllByRecursion}
-use Rattle.judge.specs.Calls.{Request, edge, row, seal, claim, void}
+use Rattle.history.specs.Calls.{Request, edge, row, seal, claim, void, step, withdraw, told}
 
 -- each number after one blank, in decimal
 abbrev pub naturals : List ℕ → List ℕ
@@ -19,6 +19,9 @@ spelled (row relation k coefficients) = codes "row" ++ integers (relation ∷ k 
 spelled seal = codes "seal"
 spelled (claim turns tree) = codes "claim" ++ (naturals (length turns ∷ turns) ++ integers tree)
 spelled (void tree) = codes "void" ++ integers tree
+spelled step = codes "step"
+spelled withdraw = codes "withdraw"
+spelled told = codes "told"
 
 -- unsigned and signed numbers of 32 bits
 abbrev pub Natural : ℕ → Type 0
@@ -34,6 +37,9 @@ Within (row relation k coefficients) = AllByRecursion Integer (relation ∷ k �
 Within seal = Unit {0}
 Within (claim turns tree) = AllByRecursion Natural turns × AllByRecursion Integer tree × (1 + length turns + length tree ≤ 512)
 Within (void tree) = AllByRecursion Integer tree × (length tree ≤ 512)
+Within step = Unit {0}
+Within withdraw = Unit {0}
+Within told = Unit {0}
 
 -- the line is of the form: it is what the request is spelled as
 abbrev pub Spells : Request → List ℕ → Type 0

@@ -1,15 +1,15 @@
 // The call of a line.
 ghost use Rattle.std.specs.Prelude.{◌≡◌, Some};
-ghost use Rattle.grammar.specs.Reading.{edge_in, row_in, claim_in, void_in, alone as alone_in, request_in};
+ghost use Rattle.grammar.specs.Reading.{edge_in, row_in, claim_in, void_in, alone as alone_in, bare_call, request_in};
 ghost use Rattle.grammar.specs.Room.{Blank};
 ghost use Rattle.grammar.specs.Spelling.{Spells};
-ghost use Rattle.judge.specs.Calls.{Request, request};
+ghost use Rattle.history.specs.Calls.{Request, request};
 ghost use Rattle.std.specs.Option.{option_map};
 
 use crate::list::{MAX_NUMBERS, integers, naturals};
 use crate::number::{after, natural};
 use arrayvec::ArrayVec;
-use judge::Call;
+use history::Call;
 
 // A line is shorter than 4096 bytes.
 const MAX_LENGTH: usize = 4095;
@@ -94,6 +94,25 @@ fn alone<'a>(call: Call<'a>, text: &[u8]) -> Option<Call<'a>>
     text.is_empty().then_some(call)
 }
 
+// The call of a line that is one word.
+fn bare_call<'a>(line: &[u8]) -> Option<Call<'a>>
+    ensures { option_map request result ≡ bare_call line.now }
+{
+    if let Some(rest) = after(b"seal", line) {
+        return alone(Call::Seal, rest);
+    }
+    if let Some(rest) = after(b"step", line) {
+        return alone(Call::Step, rest);
+    }
+    if let Some(rest) = after(b"withdraw", line) {
+        return alone(Call::Withdraw, rest);
+    }
+    if let Some(rest) = after(b"told", line) {
+        return alone(Call::Told, rest);
+    }
+    None
+}
+
 // The call of a line, by its first word. In a `match` on the word, the proof of the last arm has a case for each byte that differs.
 fn call_of<'a>(line: &[u8], tables: &'a mut Tables) -> Option<Call<'a>>
     ensures { option_map request result ≡ request_in line.now }
@@ -107,16 +126,13 @@ fn call_of<'a>(line: &[u8], tables: &'a mut Tables) -> Option<Call<'a>>
     if let Some(rest) = after(b"row", line) {
         return row(rest, tables);
     }
-    if let Some(rest) = after(b"seal", line) {
-        return alone(Call::Seal, rest);
-    }
     if let Some(rest) = after(b"claim", line) {
         return claim(rest, tables);
     }
     if let Some(rest) = after(b"void", line) {
         return void(rest, tables);
     }
-    None
+    bare_call(line)
 }
 
 /// The call that the line spells, if it spells one. Its lists of numbers are written into the tables.

@@ -1,2 +1,2 @@
 mod RowAsked
-mod Accepts
+pub mod Accepts

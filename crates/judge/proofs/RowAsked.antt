@@ -5,9 +5,9 @@ use Rattle.price.specs.declared.refusals.Refusal.{Refusal}
 use Rattle.task.specs.NewRows.{row_made}
 use Rattle.judge.specs.Cases.{Contents}
 use Rattle.judge.specs.Drafting.{and_then, row_answer}
-use Rattle.judge.specs.declared.stages.Stage.TheVariants.{Draft}
+use Rattle.judge.specs.Stages.{draft}
 
-module _ (c : Contents) (relation k : ℤ) (cs : List ℤ) (draft : c.stage ≡ Draft) where
+module _ (c : Contents) (relation k : ℤ) (cs : List ℤ) (drafted : c.stage ≡ draft) where
   asked : length c.rows < 24 → row_answer c relation k cs ≡ and_then (row_made relation k cs) (λ row. Ok (length c.rows))
   asked h = grind (arith, nat_tests)
 

@@ -1,10 +1,9 @@
 -- What a case holds.
-use Rattle.std.specs.Prelude.{◌≡◌, ◌≤◌, true, List, [], map, Vec, vec_items, vec_len, vec_capacity}
-use Rattle.judge.specs.Stages.{stage_ends_hold}
-use Rattle.judge.specs.declared.stages.Stage.{Stage}
-use Rattle.judge.specs.declared.stages.Stage.TheVariants.{Draft}
+use Rattle.std.specs.Prelude.{◌≡◌, ℕ, ◌≤◌, true, List, [], map, sum, Vec, vec_items, vec_len, vec_capacity}
+use Rattle.judge.specs.Stages.{Stage, draft, stage_of, stage_ends_hold}
+use Rattle.judge.specs.declared.stages.Stage as declared
 use Rattle.task.specs.declared.edges.Edge.{Edge}
-use Rattle.task.specs.declared.rows.Row as declared
+use Rattle.task.specs.declared.rows.Row as declared_row
 use Rattle.task.specs.NewRows.{row_of}
 use Rattle.task.specs.Rows.{Row}
 
@@ -14,9 +13,9 @@ pub record Contents : Type 0 where
   pub edges : List Edge
   pub rows : List Row
 
-module _ {Y : Type 0} (stage : Stage) (edges : Vec Edge Y) (rows : Vec declared.Row Y) where
+module _ {Y : Type 0} (stage : declared.Stage) (edges : Vec Edge Y) (rows : Vec declared_row.Row Y) (exits left : List ℕ) where
   abbrev pub contents : Contents
-  contents = record { stage = stage; edges = vec_items edges; rows = map row_of (vec_items rows) }
+  contents = record { stage = stage_of stage exits left; edges = vec_items edges; rows = map row_of (vec_items rows) }
 
   -- the lists are within their limits and have room up to them; past the draft, the ends are those of the graph
   pub record IsCase : Type 0 where
@@ -24,7 +23,8 @@ module _ {Y : Type 0} (stage : Stage) (edges : Vec Edge Y) (rows : Vec declared.
     pub edge_room : 64 ≤ vec_capacity edges
     pub few_rows : vec_len rows ≤ 24
     pub row_room : 24 ≤ vec_capacity rows
+    pub few_left : sum left ≤ 67108800
     pub ends_hold : stage_ends_hold stage (vec_items edges) ≡ true
 
 abbrev pub fresh : Contents
-fresh = record { stage = Draft; edges = []; rows = [] }
+fresh = record { stage = draft; edges = []; rows = [] }

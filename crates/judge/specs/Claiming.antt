@@ -1,12 +1,11 @@
 -- The calls that judge: the questions of each in order, what it leaves, and what an accepted one says.
-use Rattle.std.specs.Prelude.{◌≡◌, ℕ, Bool, List, ℤ, Ok, Err, Result}
-use Rattle.certificate.specs.Soundness.{NoneDearer, NoRun}
+use Rattle.std.specs.Prelude.{◌≡◌, ℕ, Bool, T, List, ℤ, Ok, Err, sum, Result}
+use Rattle.certificate.specs.Soundness.{NoRun}
 use Rattle.certificate.specs.Tasks.{Task}
 use Rattle.certificate.specs.Verdicts as verdicts
 use Rattle.judge.specs.Cases.{Contents}
 use Rattle.judge.specs.Drafting.{and_then}
-use Rattle.judge.specs.declared.stages.Stage.{Stage}
-use Rattle.judge.specs.declared.stages.Stage.TheVariants.{Draft, Sealed, Certified, Void}
+use Rattle.judge.specs.Stages.{Stage, Walk, draft, sealed, certified, void}
 use Rattle.price.specs.Pairs.{Pair}
 use Rattle.price.specs.declared.refusals.Refusal.{Refusal}
 use Rattle.price.specs.declared.refusals.Refusal.TheVariants.{NotSealed}
@@ -16,23 +15,28 @@ use Rattle.task.specs.Sound.{Sound}
 use Rattle.task.specs.Turns.{price_of, run_price, turns_in}
 use Rattle.task.specs.TurnsAnswer.{turns_answer}
 use Rattle.task.specs.declared.edges.Edge.{Edge}
+use Rattle.walk.specs.Tables.{exit_table}
 
 -- what a case past its draft has to judge
 abbrev pub task_between : List Edge → List Row → ℕ → ℕ → Task
 task_between es rows start end = record { edges = es; rows = rows; start = start; end = end }
 
--- an accepted claim: sound turns between the two ends; some run that keeps every row has them and their price, and none that keeps every row is dearer
+-- the greatest price: that of some run that keeps every row, and no run that keeps every row is dearer
+pub record Greatest (le : Pair → Pair → Bool) (es : List Edge) (rows : List Row) (p : Pair) : Type 0 where
+  pub run : List ℕ
+  pub keeps : KeepsAll es rows run
+  pub price : run_price es run ≡ p
+  pub none_dearer : (other : List ℕ) → KeepsAll es rows other → T (le (run_price es other) p)
+
+-- an accepted claim: sound turns between the two ends, and their price, which is the greatest; a run of that price has just these turns
 pub record Accepted (le : Pair → Pair → Bool) (es : List Edge) (rows : List Row) (ts : List ℕ) (c : Pair) : Type 0 where
   pub start : ℕ
   pub end : ℕ
   pub ends : Ends es start end
   pub sound : Sound es rows start end ts
   pub price : c ≡ price_of es ts
-  pub run : List ℕ
-  pub keeps : KeepsAll es rows run
-  pub claimed : turns_in es run ≡ ts
-  pub has_price : run_price es run ≡ c
-  pub none_dearer : NoneDearer le (task_between es rows start end) c
+  pub greatest : Greatest le es rows c
+  pub claimed : turns_in es greatest.run ≡ ts
 
 -- an accepted void claim: two ends, and no run between them keeps every row
 pub record Voided (es : List Edge) (rows : List Row) : Type 0 where
@@ -45,10 +49,10 @@ pub record Voided (es : List Edge) (rows : List Row) : Type 0 where
 
 -- asked of a sealed case only
 abbrev pub if_sealed : {A : Type 0} → Stage → (ℕ → ℕ → Result A Refusal) → Result A Refusal
-if_sealed Draft judged = Err NotSealed
-if_sealed (Sealed start end) judged = judged start end
-if_sealed (Certified start end) judged = Err NotSealed
-if_sealed (Void start end) judged = Err NotSealed
+if_sealed draft judged = Err NotSealed
+if_sealed (sealed start end) judged = judged start end
+if_sealed (certified start end price walk) judged = Err NotSealed
+if_sealed (void start end) judged = Err NotSealed
 
 module _ (le : Pair → Pair → Bool) (unit : Pair) where
   -- the turns, then the tree; the answer is the price of the turns
@@ -64,24 +68,28 @@ module _ (le : Pair → Pair → Bool) (unit : Pair) where
   abbrev pub void_answer : Contents → List ℤ → Result (Unit {0}) Refusal
   void_answer c xs = if_sealed c.stage (λ start end. verdicts.void_answer le unit (task_between c.edges c.rows start end) xs)
 
--- the stage after an accepted claim, and after an accepted void claim
-abbrev pub certified : Stage → Stage
-certified Draft = Draft
-certified (Sealed start end) = Certified start end
-certified (Certified start end) = Certified start end
-certified (Void start end) = Void start end
+-- the walk of a claim before its first step
+abbrev pub walk_from : List Edge → ℕ → ℕ → List ℕ → Walk
+walk_from es start end ts = record { all = sum ts; exits = exit_table es ts end; left = ts; at = start }
 
-abbrev pub voided : Stage → Stage
-voided Draft = Draft
-voided (Sealed start end) = Void start end
-voided (Certified start end) = Certified start end
-voided (Void start end) = Void start end
+-- the stage after an accepted claim, and after an accepted void claim
+abbrev pub when_claimed : Stage → List Edge → List ℕ → Pair → Stage
+when_claimed draft es ts price = draft
+when_claimed (sealed start end) es ts price = certified start end price (walk_from es start end ts)
+when_claimed (certified start end other walk) es ts price = certified start end other walk
+when_claimed (void start end) es ts price = void start end
+
+abbrev pub when_voided : Stage → Stage
+when_voided draft = draft
+when_voided (sealed start end) = void start end
+when_voided (certified start end price walk) = certified start end price walk
+when_voided (void start end) = void start end
 
 -- an accepted claim changes the stage alone, and a refusal nothing
-abbrev pub claim_kept : Result Pair Refusal → Contents → Contents
-claim_kept (Ok price) c = record { stage = certified c.stage; edges = c.edges; rows = c.rows }
-claim_kept (Err refusal) c = c
+abbrev pub claim_kept : Result Pair Refusal → Contents → List ℕ → Contents
+claim_kept (Ok price) c ts = record { stage = when_claimed c.stage c.edges ts price; edges = c.edges; rows = c.rows }
+claim_kept (Err refusal) c ts = c
 
 abbrev pub void_kept : Result (Unit {0}) Refusal → Contents → Contents
-void_kept (Ok _) c = record { stage = voided c.stage; edges = c.edges; rows = c.rows }
+void_kept (Ok _) c = record { stage = when_voided c.stage; edges = c.edges; rows = c.rows }
 void_kept (Err refusal) c = c

@@ -1,8 +1,7 @@
 -- The calls that draft a task and seal it: the questions of each in order, and what it leaves.
 use Rattle.std.specs.Prelude.{ℕ, not, List, [], ◌∷◌, ◌++◌, length, ℤ, Ok, Err, Result, nat_lt}
 use Rattle.judge.specs.Cases.{Contents}
-use Rattle.judge.specs.Stages.{is_draft}
-use Rattle.judge.specs.declared.stages.Stage.TheVariants.{Sealed}
+use Rattle.judge.specs.Stages.{is_draft, sealed}
 use Rattle.price.specs.Questions.{ask}
 use Rattle.price.specs.declared.refusals.Refusal.{Refusal}
 use Rattle.price.specs.declared.refusals.Refusal.TheVariants.{NotDraft, EdgesFull, EdgeRepeated, RowsFull}
@@ -51,5 +50,5 @@ seal_answer c = ask (is_draft c.stage) NotDraft (ends_answer c.edges)
 
 -- a sealed case keeps its edges and rows, and a refusal changes nothing
 abbrev pub seal_kept : Result (ℕ × ℕ) Refusal → Contents → Contents
-seal_kept (Ok ends) c = record { stage = Sealed ends.0 ends.1; edges = c.edges; rows = c.rows }
+seal_kept (Ok ends) c = record { stage = sealed ends.0 ends.1; edges = c.edges; rows = c.rows }
 seal_kept (Err refusal) c = c

@@ -1,7 +1,7 @@
-pub mod Calls
-pub mod Answers
 pub mod Stages
+pub mod Counts
 pub mod Cases
+pub mod Reports
 pub mod Drafting
 pub mod Claiming
-pub mod Performing
+pub mod Handing

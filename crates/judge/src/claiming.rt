@@ -3,14 +3,17 @@ ghost use Rattle.std.specs.Prelude.{◌≡◌, ◌≤◌, length, IfOk, OnOk};
 ghost use Rattle.certificate.specs.Tasks.{task_of};
 ghost use Rattle.certificate.specs.Verdicts.{void_answer as tree_answer};
 ghost use Rattle.judge.specs.Claiming.{Accepted, Voided, claim_answer, claim_kept, claim_on, task_between, void_answer, void_kept};
+ghost use Rattle.judge.specs.Counts.{Few};
 ghost use Rattle.price.specs.Prices.{pair};
 ghost use Rattle.task.specs.NewRows.{mapped};
 
 use crate::case::Case;
+use crate::counts::{refill, total};
 use crate::stages::Stage;
 use certificate::{prove_price, prove_void};
 use price::{Price, Refusal, Tariff};
 use task::{Flow, Task};
+use walk::last_exits;
 
 // The turns are sound, and the tree proves their price.
 fn judge_claim<T: Tariff>(
@@ -55,7 +58,8 @@ impl Case {
         turns: &[u32],
         tree: &[i32],
     ) -> Result<Price, Refusal>
-        ensures { mapped pair result ≡ claim_on (T.le tariff.now) (T.unit tariff.now) (task_between self.now.edges self.now.rows start end) turns.now tree.now }
+        ensures answer { mapped pair result ≡ claim_on (T.le tariff.now) (T.unit tariff.now) (task_between self.now.edges self.now.rows start end) turns.now tree.now }
+        ensures few { OnOk result (Few turns.now) }
     {
         judge_claim(tariff, self.task(start, end), turns, tree)
     }
@@ -82,13 +86,25 @@ impl Case {
         tree: &[i32],
     ) -> Result<Price, Refusal>
         ensures answer { mapped pair result ≡ claim_answer (T.le tariff.now) (T.unit tariff.now) self.old turns.now tree.now }
-        ensures kept { self.new ≡ claim_kept (mapped pair result) self.old }
+        ensures kept { self.new ≡ claim_kept (mapped pair result) self.old turns.now }
         ensures accepted { IfOk result (λ p. Accepted (T.le tariff.now) self.old.edges self.old.rows turns.now (pair p)) }
     {
         match self.stage {
             Stage::Sealed { start, end } => {
                 let price = self.judge_turns(tariff, start, end, turns, tree)?;
-                self.stage = Stage::Certified { start, end };
+                let claimed = Flow {
+                    edges: &self.edges,
+                    turns,
+                };
+                self.exits = last_exits(claimed, end);
+                refill(&mut self.left, turns);
+                self.stage = Stage::Certified {
+                    start,
+                    end,
+                    price,
+                    all: total(turns),
+                    at: start,
+                };
                 Ok(price)
             }
             _ => Err(Refusal::NotSealed),

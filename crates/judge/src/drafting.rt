@@ -2,13 +2,15 @@
 ghost use Rattle.std.specs.Prelude.{◌≡◌, ℕ, IfOk, Ok};
 ghost use Rattle.judge.specs.Cases.{fresh};
 ghost use Rattle.judge.specs.Drafting.{edge_answer, edge_kept, row_answer, row_kept, seal_answer, seal_kept};
+ghost use Rattle.judge.specs.Stages.{draft};
 ghost use Rattle.task.specs.Sealing.{EveryEdge, Sealed};
 
 use crate::case::Case;
+use crate::counts::Turns;
 use crate::stages::Stage;
 use price::Refusal;
 use std::alloc::{AllocError, Global};
-use task::{Edge, MAX_EDGES, MAX_ROWS, Row, ends, repeats};
+use task::{Edge, MAX_EDGES, MAX_ROWS, NODES, Row, ends, repeats};
 
 impl Case {
     /// An empty draft; refused only for want of memory.
@@ -21,6 +23,8 @@ impl Case {
             stage: Stage::Draft,
             edges,
             rows,
+            exits: [0; NODES],
+            left: Turns::new(),
         })
     }
 
@@ -74,7 +78,7 @@ impl Case {
     pub fn seal(&mut self) -> Result<(u8, u8), Refusal>
         ensures answer { result ≡ seal_answer self.old }
         ensures kept { self.new ≡ seal_kept result self.old }
-        ensures means { self.old.stage ≡ Stage.Draft → Sealed self.old.edges result }
+        ensures means { self.old.stage ≡ draft → Sealed self.old.edges result }
         ensures law { (start end : ℕ) → result ≡ Ok (start, end) → EveryEdge self.old.edges start end }
     {
         match self.stage {

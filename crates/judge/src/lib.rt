@@ -1,14 +1,14 @@
 // A task on trial: the case that holds it, and the calls on the case.
 #![tactic(auto)]
 
-mod calls;
 mod case;
 mod claiming;
+mod counts;
 mod drafting;
-mod performing;
+mod handing;
+mod reports;
 mod stages;
 
-pub use calls::{Answer, Call};
 pub use case::Case;
-pub use performing::perform;
+pub use reports::Report;
 pub use stages::Stage;

@@ -10,9 +10,9 @@ use Rattle.task.specs.Sides.{reaches}
 use Rattle.task.specs.declared.edges.Edge.{Edge}
 use Rattle.judge.specs.Cases.{Contents}
 use Rattle.judge.specs.Drafting.{and_then, taken, edge_answer, edge_kept}
-use Rattle.judge.specs.declared.stages.Stage.TheVariants.{Draft}
-use Rattle.judge.specs.Answers.{number, ends, refused, numbered}
-use Rattle.judge.specs.Calls.{Request, seal, claim}
+use Rattle.judge.specs.Stages.{draft}
+use Rattle.history.specs.Answers.{number, ends, refused, numbered}
+use Rattle.history.specs.Calls.{Request, seal, claim}
 use Rattle.trials.specs.Playing.{answers_from}
 use Rattle.trials.specs.Worked.{Costs, an_edge, BalancedButNoRun}
 
@@ -21,7 +21,7 @@ made_of tail head c = record { tail = tail; head = head; block = c.block; cycles
 
 -- a draft of these edges
 abbrev holds : List Edge → Contents
-holds es = record { stage = Draft; edges = es; rows = [] }
+holds es = record { stage = draft; edges = es; rows = [] }
 
 yes : {A : Type 0} (b : Bool) (refusal : Refusal) (r : Result A Refusal) → b ≡ true → ask b refusal r ≡ r
 yes b refusal r is = ap (λ v. ask v refusal r) is

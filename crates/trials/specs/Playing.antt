@@ -1,8 +1,8 @@
 -- The answers of calls on a fresh case, one after the other, by the calls' own definitions.
 use Rattle.std.specs.Prelude.{◌≡◌, Bool, List, [], ◌∷◌}
-use Rattle.judge.specs.Answers.{Said}
-use Rattle.judge.specs.Calls.{Request}
-use Rattle.judge.specs.Performing.{answered, after}
+use Rattle.history.specs.Answers.{Said}
+use Rattle.history.specs.Calls.{Request}
+use Rattle.history.specs.Performing.{answered, after}
 use Rattle.judge.specs.Cases.{Contents, fresh}
 use Rattle.price.specs.Pairs.{Pair}
 

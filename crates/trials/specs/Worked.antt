@@ -1,7 +1,7 @@
 -- The worked cases of the rules.
 use Rattle.std.specs.Prelude.{ℕ, ◌≤◌, List, [], ◌∷◌, ◌++◌, ℤ, pos, negsuc}
-use Rattle.judge.specs.Answers.{Said, number, ends, price, agreed, refused}
-use Rattle.judge.specs.Calls.{Request, edge, row, seal, claim, void}
+use Rattle.history.specs.Answers.{Said, number, ends, price, next, done, agreed, refused}
+use Rattle.history.specs.Calls.{Request, edge, row, seal, claim, void, step}
 use Rattle.price.specs.Tariffs.{by_cycles, one_read, by_weight, one_cycle}
 use Rattle.price.specs.declared.refusals.Refusal.TheVariants.{Stranded, RowBroken, NotOneTree, TreeRange, AllowanceShort, BoundTooHigh}
 use Rattle.std.specs.List.{AllByRecursion}
@@ -74,8 +74,9 @@ at_scale_two = drafted cheap_loop half_integral (claim once scale_two ∷ [])
 
 abbrev pub table : List Trial
 table =
-    -- the loop with the retry row
-    retry most (one_leaf 1 245) (price (pos 245, pos 19))
+    -- the loop with the retry row, and its steps
+    by_cycles_first (drafted loop three_retries (claim most (one_leaf 1 245) ∷ step ∷ step ∷ step ∷ step ∷ step ∷ step ∷ step ∷ step ∷ step ∷ step ∷ []))
+    (drafted_said (price (pos 245, pos 19) ∷ next 0 ∷ next 1 ∷ next 2 ∷ next 1 ∷ next 2 ∷ next 1 ∷ next 2 ∷ next 1 ∷ next 3 ∷ done ∷ []))
     -- a potential too low
     ∷ retry most (one_leaf 1 244) (refused (AllowanceShort 0 0))
     -- a cheaper run claimed

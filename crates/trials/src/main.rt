@@ -7,14 +7,17 @@ mod laws;
 use anyhow::anyhow;
 use console::session;
 use deep::deep_tree;
-use judge::{Answer, Call, Case, perform};
+use history::{Answer, Call, perform};
+use judge::Case;
 use price::{CyclesFirst, Refusal, Tariff, Weighted};
 use std::alloc::Global;
 use std::fs;
 use std::io::Write;
 
-const SESSIONS: [&str; 6] = [
+const SESSIONS: [&str; 8] = [
+    "drafting.txt",
     "retry-loop.txt",
+    "exit-set-aside.txt",
     "half-integral-row.txt",
     "balanced-but-no-run.txt",
     "no-run.txt",

@@ -1,7 +1,8 @@
 -- What is answered.
-use Rattle.std.specs.Prelude.{ℕ, Ok, Err, Result}
-use Rattle.judge.specs.declared.calls.Answer.{Answer}
-use Rattle.judge.specs.declared.calls.Answer.TheVariants.{Number, Ends, Price, Agreed}
+use Rattle.std.specs.Prelude.{ℕ, Some, None, Ok, Err, Option, Result}
+use Rattle.history.specs.declared.calls.Answer.{Answer}
+use Rattle.history.specs.declared.calls.Answer.TheVariants.{Number, Ends, Price, Next, Done, Agreed, Told}
+use Rattle.judge.specs.Reports.{State, shown}
 use Rattle.price.specs.Pairs.{Pair}
 use Rattle.price.specs.Prices.{pair}
 use Rattle.price.specs.declared.refusals.Refusal.{Refusal}
@@ -11,14 +12,20 @@ pub data Said : Type 0 where
   number : ℕ → Said
   ends : ℕ → ℕ → Said
   price : Pair → Said
+  next : ℕ → Said
+  done : Said
   agreed : Said
+  told : State → Said
   refused : Refusal → Said
 
 abbrev pub said : Result Answer Refusal → Said
 said (Ok (Number n)) = number n
 said (Ok (Ends start end)) = ends start end
 said (Ok (Price p)) = price (pair p)
+said (Ok (Next edge)) = next edge
+said (Ok Done) = done
 said (Ok Agreed) = agreed
+said (Ok (Told report)) = told (shown report)
 said (Err refusal) = refused refusal
 
 -- the result of a call, as an answer
@@ -34,6 +41,14 @@ ended (Err refusal) = refused refusal
 abbrev pub priced : Result Pair Refusal → Said
 priced (Ok p) = price p
 priced (Err refusal) = refused refusal
+
+abbrev pub next_or_done : Option ℕ → Said
+next_or_done (Some edge) = next edge
+next_or_done None = done
+
+abbrev pub stepped : Result (Option ℕ) Refusal → Said
+stepped (Ok found) = next_or_done found
+stepped (Err refusal) = refused refusal
 
 abbrev pub unless_refused : Result (Unit {0}) Refusal → Said
 unless_refused (Ok _) = agreed

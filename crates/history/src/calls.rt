@@ -1,5 +1,6 @@
 // What may be asked of a case, and what it answers.
 
+use judge::Report;
 use price::Price;
 
 /// A call, with the numbers and lists handed to it.
@@ -25,6 +26,9 @@ pub enum Call<'a> {
     Void {
         tree: &'a [i32],
     },
+    Step,
+    Withdraw,
+    Told,
 }
 
 /// What a call answers, where it does not refuse.
@@ -36,6 +40,12 @@ pub enum Answer {
     Ends(u8, u8),
     /// The certified price.
     Price(Price),
+    /// The next edge of the certified run.
+    Next(usize),
+    /// The certified run has been handed out.
+    Done,
     /// Accepted, with nothing more to say.
     Agreed,
+    /// What the case tells of itself.
+    Told(Report),
 }

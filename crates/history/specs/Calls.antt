@@ -1,0 +1,25 @@
+-- What is asked of a case.
+use Rattle.std.specs.Prelude.{ℕ, List, ℤ}
+use Rattle.history.specs.declared.calls.Call.{Call}
+use Rattle.history.specs.declared.calls.Call.TheVariants.{Edge, Row, Seal, Claim, Void, Step, Withdraw, Told}
+
+-- a call, by its numbers and lists
+pub data Request : Type 0 where
+  edge : (tail head block cycles reads : ℕ) → Request
+  row : (relation k : ℤ) (coefficients : List ℤ) → Request
+  seal : Request
+  claim : (turns : List ℕ) (tree : List ℤ) → Request
+  void : (tree : List ℤ) → Request
+  step : Request
+  withdraw : Request
+  told : Request
+
+abbrev pub request : Call → Request
+request (Edge tail head block cycles reads) = edge tail head block cycles reads
+request (Row relation k coefficients) = row relation k coefficients.now
+request Seal = seal
+request (Claim turns tree) = claim turns.now tree.now
+request (Void tree) = void tree.now
+request Step = step
+request Withdraw = withdraw
+request Told = told
