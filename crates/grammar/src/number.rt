@@ -87,7 +87,7 @@ fn integer_front(text: &[u8]) -> Option<(i32, &[u8])>
     }
 }
 
-// The natural number after one blank, and the text after it.
+// The natural number after one blank, and the text after it; `integer` is the same line for the other kind of number.
 pub(crate) fn natural(text: &[u8]) -> Option<(u32, &[u8])>
     ensures { held result ≡ natural_after text.now }
 {

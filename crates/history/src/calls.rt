@@ -3,7 +3,7 @@
 use judge::Report;
 use price::Price;
 
-/// A call, with the numbers and lists handed to it.
+/// A call, with the numbers and lists handed to it, as it is written; nobody prints or compares one.
 #[derive(Clone, Copy)]
 pub enum Call<'a> {
     Edge {

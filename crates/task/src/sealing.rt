@@ -72,7 +72,7 @@ fn find_ends(edges: &[Edge]) -> Result<(u8, u8), Refusal>
     }
 }
 
-/// The start and the end: the only node that no edge enters, and the only one that no edge leaves. Every node lies on a path between them.
+/// The start and the end, as a pair: the only node that no edge enters, and the only one that no edge leaves. Every node lies on a path between them.
 pub fn ends(edges: &[Edge]) -> Result<(u8, u8), Refusal>
     ensures answer { result ≡ ends_answer edges.now }
     ensures means { Sealed edges.now result }

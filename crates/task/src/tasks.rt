@@ -13,7 +13,7 @@ pub const MAX_ROWS: usize = 24;
 /// As many nodes as a node's number can name: the length of each table by nodes. These are arrays, since judging takes no memory.
 pub const NODES: usize = 256;
 
-/// The edges and the rows of a task, its start and its end, which are those that `ends` answers.
+/// The edges and the rows of a task, its start and its end, which are those that `ends` answers. It lends lists, and nobody prints it.
 #[derive(Clone, Copy)]
 pub struct Task<'a> {
     pub edges: &'a [Edge],
@@ -22,7 +22,7 @@ pub struct Task<'a> {
     pub end: u8,
 }
 
-/// A flow: the edges of a task, and a number of turns for each. Both lists are lent: the edges by a case, the turns by a claim.
+/// A flow: the edges of a task, and a number of turns for each. Both lists are lent, the edges by a case and the turns by a claim, and nobody prints them.
 #[derive(Clone, Copy)]
 pub struct Flow<'a> {
     pub edges: &'a [Edge],
