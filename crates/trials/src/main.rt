@@ -7,7 +7,7 @@ mod laws;
 use anyhow::anyhow;
 use console::session;
 use deep::deep_tree;
-use history::{Answer, Call, perform};
+use history::{Answer, Call, perform, play};
 use judge::Case;
 use price::{CyclesFirst, Refusal, Tariff, Weighted};
 use std::alloc::Global;
@@ -57,8 +57,6 @@ fn tell(rt: &HostRuntime, name: &str, answer: Result<Answer, Refusal>) -> anyhow
 const RETRY: &[u8] =
     b"edge 0 1 0 0 0\nedge 1 2 1 0 0\nedge 2 1 2 1 0\nedge 2 3 3 0 0\nrow 1 0 -3 0 2\nseal\n";
 
-const ONE_EDGE: &[u8] = b"edge 0 1 0 20 1\nseal\n";
-
 // A fresh case after these lines.
 fn sealed(heap: Global, lines: &[u8]) -> anyhow::Result<Case> {
     let mut case = Case::new(heap)?;
@@ -76,21 +74,27 @@ fn claim_at_scale_two<T: Tariff>(rt: &HostRuntime, name: &str, tariff: &T) -> an
     tell(rt, name, perform(&mut case, tariff, &call))
 }
 
-// A claim of one edge, backed by a tree of 4,096 leaves.
+// A claim of one edge, backed by a tree of 4,096 leaves: the last of a list of calls.
 fn claim_deep(rt: &HostRuntime) -> anyhow::Result<()> {
     let heap = rt.alloc();
     let tree = deep_tree(heap)?;
-    let mut case = sealed(heap, ONE_EDGE)?;
-    let call = Call::Claim {
+    let edge = Call::Edge {
+        tail: 0,
+        head: 1,
+        block: 0,
+        cycles: 20,
+        reads: 1,
+    };
+    let claim = Call::Claim {
         turns: &[1],
         tree: &tree,
     };
     println!(rt; "numbers in the tree: {}", tree.len())?;
-    tell(
-        rt,
-        "4096 leaves under 12 splits",
-        perform(&mut case, &CyclesFirst, &call),
-    )
+    let answers = play(heap, &CyclesFirst, &[edge, Call::Seal, claim])?;
+    let Some(answer) = answers.last() else {
+        return Err(anyhow!("no call was answered"));
+    };
+    tell(rt, "4096 leaves under 12 splits", *answer)
 }
 
 fn weighted() -> anyhow::Result<Weighted> {
