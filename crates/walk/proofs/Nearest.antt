@@ -1,5 +1,5 @@
 -- Distances that shrink over edges with turns, pass by pass, and the exits by them.
-use Rattle.std.proofs.Common.{◌^◌, ◌≡◌, ℕ, zero, suc, ◌+◌, ◌<◌, ◌≤◌, Bool, true, false, List, length, get_or, set, replicate, sym, refl, ap, ◌∙◌, subst, ⊎_elim, add-one, arith, length-set, below_more}
+use Rattle.std.proofs.Common.{◌^◌, ◌≡◌, ℕ, zero, suc, ◌+◌, ◌<◌, ◌≤◌, Bool, true, false, List, length, get_or, set, replicate, sym, refl, ap, ◌∙◌, subst, ⊎_elim, add-one, arith, length-set}
 use Rattle.std.proofs.lemmas.List.{get_or-set_same, get_or-set_other, get_or-replicate, length-replicate}
 use Rattle.std.proofs.lemmas.List.Sums.{sum_by-set}
 use Rattle.std.proofs.lemmas.Bool.{both_ways, eqb-true, cases_eq, cases_lt}
@@ -12,15 +12,18 @@ use Rattle.walk.specs.Rule.{has_turns, hops, near, distance}
 use Rattle.walk.specs.Tables.{Far, Relaxed, Right, Pass}
 use Rattle.walk.proofs.Reach.{hop_leaves, near_end, near_on}
 
--- ---- one pass
+-- ---- one pass, from the last edge to the first
 
-module _ (es : List Edge) (ts before after : List ℕ) (settled : Bool) (x : ℕ) (pass : Pass es ts before after settled x) where
-  pub pass_goes_by : Relaxed es ts after x → Pass es ts before after settled (x + 1)
+module _ (es : List Edge) (ts before after : List ℕ) (settled : Bool) (n x : ℕ) (next : n ≤ x + 1) (pass : Pass es ts before after settled n) where
+  pub pass_goes_by : Relaxed es ts after x → Pass es ts before after settled x
   pass_goes_by here = record {
     sized = pass.sized;
     lower = pass.lower;
     right = pass.right;
-    done = λ s. below_more (Relaxed es ts after) x (pass.done s) here;
+    done = λ s y from low. ⊎_elim
+        (λ (e : y ≡ x). subst (Relaxed es ts after) (sym e) here)
+        (λ (ne : y ≡ x → ⊥). pass.done s y (omega (arith, from, ne, next)) low)
+        (cases_eq y x);
     fewer = pass.fewer;
   }
 
@@ -37,7 +40,7 @@ module _ (es : List Edge) (ts before after : List ℕ) (settled : Bool) (x : ℕ
     unfolding lowered
     elsewhere v ne = get_or-set_other after (tail_of es x) v (get_or after (head_of es x) 0 + 1) 0 ne
 
-    pub pass_lowers : Pass es ts before (set after (tail_of es x) (get_or after (head_of es x) 0 + 1)) false (x + 1)
+    pub pass_lowers : Pass es ts before (set after (tail_of es x) (get_or after (head_of es x) 0 + 1)) false x
     unfolding lowered
     pass_lowers = record {
       sized = length-set after (tail_of es x) (get_or after (head_of es x) 0 + 1) ∙ pass.sized;
@@ -93,13 +96,13 @@ module _ (es : List Edge) (ts : List ℕ) (end : ℕ) where
   pub only_end_small : end < 256 → length es < 2 ^ 62 → (v : ℕ) → v < 256 → get_or (set (replicate 256 (length es + 2)) end 0) v 0 < 2 ^ 63
   only_end_small low few v h = omega (arith, (only_end low).most v h)
 
-  pub nearing_on : (before after : List ℕ) (was settled : Bool) → Nearing es ts end before was → Pass es ts before after settled (length es) → Nearing es ts end after settled
+  pub nearing_on : (before after : List ℕ) (was settled : Bool) → Nearing es ts end before was → Pass es ts before after settled 0 → Nearing es ts end after settled
   nearing_on before after was settled r pass = record {
     sized = pass.sized ∙ r.sized;
     most = λ v h. omega (arith, r.most v h, pass.lower v);
     right = pass.right (near es ts end) (length es + 2) counts r.right;
     at_end = omega (arith, r.at_end, pass.lower end);
-    done = pass.done;
+    done = λ s x low. pass.done s x (omega arith) low;
   }
     where
       counts : (x : ℕ) → x < length es → has_turns ts x ≡ true → (k : ℕ) → near es ts end k (head_of es x) ≡ true → near es ts end (k + 1) (tail_of es x) ≡ true

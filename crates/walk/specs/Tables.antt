@@ -4,7 +4,7 @@ use Rattle.std.specs.List.{range_with_len}
 use Rattle.task.specs.declared.edges.Edge.{Edge}
 use Rattle.task.specs.Graph.{tail_of, head_of}
 use Rattle.task.specs.Lowest.{one_if}
-use Rattle.walk.specs.Rule.{has_turns, hops, distance, last_exit}
+use Rattle.walk.specs.Rule.{has_turns, distance, last_exit}
 
 -- the table holds the distance of every node
 pub record Far (es : List Edge) (claimed : List ℕ) (end : ℕ) (far : List ℕ) : Type 0 where
@@ -21,9 +21,9 @@ exit_table es claimed end = map (last_exit es claimed end) (range_with_len 0 256
 
 -- ---- to compute with
 
--- edge x leaves v with claimed turns for a node one nearer by the table
-abbrev pub nearer_by : List Edge → List ℕ → List ℕ → ℕ → ℕ → Bool
-nearer_by es claimed far v x = hops es claimed v x && slice_index far (head_of es x) + 1 == slice_index far v
+-- edge x leads with claimed turns to a node one nearer by the table
+abbrev pub nearer_by : List Edge → List ℕ → List ℕ → ℕ → Bool
+nearer_by es claimed far x = has_turns claimed x && slice_index far (head_of es x) + 1 == slice_index far (tail_of es x)
 
 -- edge x brings its tail no nearer
 abbrev pub Relaxed : List Edge → List ℕ → List ℕ → ℕ → Type 0
@@ -37,10 +37,10 @@ Counts es ts p x = has_turns ts x ≡ true → (k : ℕ) → p k (head_of es x) 
 abbrev pub Right : (ℕ → ℕ → Bool) → ℕ → List ℕ → Type 0
 Right p top far = (v : ℕ) → v < length far → slice_index far v < top → p (slice_index far v) v ≡ true
 
--- a pass that has come to edge n, and whether it has changed nothing
+-- a pass that has come from the last edge down to edge n, and whether it has changed nothing
 pub record Pass (es : List Edge) (ts before after : List ℕ) (settled : Bool) (n : ℕ) : Type 0 where
   pub sized : length after ≡ length before
   pub lower : (v : ℕ) → slice_index after v ≤ slice_index before v
   pub right : (p : ℕ → ℕ → Bool) (top : ℕ) → ((x : ℕ) → x < length es → Counts es ts p x) → Right p top before → Right p top after
-  pub done : settled ≡ true → (x : ℕ) → x < n → Relaxed es ts after x
+  pub done : settled ≡ true → (x : ℕ) → n ≤ x → x < length es → Relaxed es ts after x
   pub fewer : sum after + one_if (not settled) ≤ sum before

@@ -1,18 +1,23 @@
-use Rattle.std.proofs.Common.{◌≡◌, ℕ, ◌<◌, get_or, arith, length-set, ◌∙◌}
-use Rattle.std.proofs.lemmas.List.Edits.{fill_by_more}
+use Rattle.std.proofs.Common.{◌≡◌, ℕ, ◌-◌, ◌<◌, get_or, sym, arith}
 use Rattle.walk.specs.Rule.{last_exit}
+use Rattle.walk.proofs.Searches.{exits_none, exits_pass, exits_set, exits_all}
 use Rattle.walk.proofs.Tabling.{is_table}
 use Rattle.walk.proofs.exits.last_exits.Goals as goal
 
-pub loop-node-preserved : goal.loop-node-preserved
-loop-node-preserved c = record {
-  sized = length-set c.loop-node.exit-items c.loop-node.node c.exit.result ∙ c.loop-node.invariant.sized;
-  filled = rw (c.exit.ensures c.args.end c.to_end-table.ensures) (fill_by_more (last_exit c.args.flow.edges.now c.args.flow.turns.now c.args.end) c.loop-node.exit-items c.loop-node.node 0 (omega (arith, c.loop-node.invariant.sized)) c.loop-node.invariant.filled);
-}
+pub loop-x-init : goal.loop-x-init
+loop-x-init c = exits_none c.args.flow.edges.now c.args.flow.turns.now c.args.end
+
+pub loop-x-preserved-then-leads_nearer : goal.loop-x-preserved-then-leads_nearer
+loop-x-preserved-then-leads_nearer c = rw c.from.ensures (exits_set c.args.flow.edges.now c.args.flow.turns.now c.args.end c.to_end-table.result.far c.loop-x.exits (c.loop-x.x - 1) c.loop-x.x
+    c.to_end-table.ensures c.leads_nearer.ensures.low (omega arith) c.loop-x.invariant (omega arith) (sym c.if-leads_nearer.ensures.answer))
+
+pub loop-x-preserved : goal.loop-x-preserved
+loop-x-preserved c = exits_pass c.args.flow.edges.now c.args.flow.turns.now c.args.end c.to_end-table.result.far c.loop-x.exits (c.loop-x.x - 1) c.loop-x.x
+    c.to_end-table.ensures c.leads_nearer.ensures.low (omega arith) c.loop-x.invariant (sym c.if-leads_nearer.ensures.answer)
 
 pub returns : goal.returns
 returns c =
     let es = c.args.flow.edges.now in
     let ts = c.args.flow.turns.now in
-    let all : (v : ℕ) → v < 256 → get_or c.loop-node.exit-items v 0 ≡ last_exit es ts c.args.end v = λ v low. c.loop-node.invariant.filled v (omega arith) in
-    record { table = is_table es ts c.args.end c.loop-node.exit-items c.loop-node.invariant.sized all; exits = record { all = all } }
+    let all : (v : ℕ) → v < 256 → get_or c.loop-x.exits v 0 ≡ last_exit es ts c.args.end v = exits_all es ts c.args.end c.loop-x.exits c.loop-x.x (omega arith) c.loop-x.invariant in
+    record { table = is_table es ts c.args.end c.loop-x.exits c.loop-x.invariant.sized all; exits = record { all = all } }
