@@ -1,5 +1,5 @@
 -- Marks that spread over live edges, pass by pass.
-use Rattle.std.proofs.Common.{◌≡◌, ℕ, ◌+◌, ◌<◌, ◌≤◌, Bool, true, false, not, List, [], ◌∷◌, length, get_or, set, replicate, sym, refl, ap, ◌∙◌, subst, ⊎_elim, arith, length-set, below_more}
+use Rattle.std.proofs.Common.{◌≡◌, ℕ, ◌+◌, ◌<◌, ◌≤◌, Bool, true, false, not, List, [], ◌∷◌, length, get_or, set, replicate, sym, refl, ap, ◌∙◌, subst, ⊎_elim, arith, length-set}
 use Rattle.std.proofs.lemmas.List.{get_or-set_same, get_or-set_other, get_or_past, get_or-replicate, length-replicate}
 use Rattle.std.proofs.lemmas.List.Sums.{sum_by-set}
 use Rattle.std.proofs.lemmas.Bool.{both_ways, cases_eq, cases_lt}
@@ -11,20 +11,23 @@ use Rattle.task.specs.Spreading.{Spread, is_marked, unmarked, Pass}
 use Rattle.task.specs.Ways.{Way}
 use Rattle.task.proofs.Reach.{reach_way, way_reach, spread_way}
 
--- ---- one pass
+-- ---- one pass, from the last edge to the first
 
-module _ (es : List Edge) (ts : List ℕ) (side : Side) (before after : List Bool) (settled : Bool) (x : ℕ) (pass : Pass es ts side before after settled x) where
-  pub pass_goes_by : Spread es ts side (is_marked after) x → Pass es ts side before after settled (x + 1)
+module _ (es : List Edge) (ts : List ℕ) (side : Side) (before after : List Bool) (settled : Bool) (n x : ℕ) (next : n ≤ x + 1) (pass : Pass es ts side before after settled n) where
+  pub pass_goes_by : Spread es ts side (is_marked after) x → Pass es ts side before after settled x
   pass_goes_by here = record {
     sized = pass.sized;
     keeps = pass.keeps;
     right = pass.right;
-    done = λ s. below_more (Spread es ts side (is_marked after)) x (pass.done s) here;
+    done = λ s y from low. ⊎_elim
+        (λ (e : y ≡ x). subst (Spread es ts side (is_marked after)) (sym e) here)
+        (λ (ne : y ≡ x → ⊥). pass.done s y (omega (arith, from, ne, next)) low)
+        (cases_eq y x);
     fewer = pass.fewer;
   }
 
   pub pass_marks : x < length es → is_live ts x ≡ true → is_marked after (end_of es (other_side side) x) ≡ true →
-      end_of es side x < length after → is_marked after (end_of es side x) ≡ false → Pass es ts side before (set after (end_of es side x) true) false (x + 1)
+      end_of es side x < length after → is_marked after (end_of es side x) ≡ false → Pass es ts side before (set after (end_of es side x) true) false x
   pass_marks low on there small blank =
       let u = end_of es side x in
       record {
@@ -84,12 +87,12 @@ module _ (es : List Edge) (ts : List ℕ) (side : Side) (goal : ℕ) where
           (λ (h : 256 ≤ v). get_or_past (replicate 256 false) v false (omega (arith, length-replicate 256 false)))
           (cases_lt v 256)
 
-  pub marked_on : (before after : List Bool) (was settled : Bool) → Marked es ts side goal before was → Pass es ts side before after settled (length es) → Marked es ts side goal after settled
+  pub marked_on : (before after : List Bool) (was settled : Bool) → Marked es ts side goal before was → Pass es ts side before after settled 0 → Marked es ts side goal after settled
   marked_on before after was settled marked pass = record {
     sized = pass.sized ∙ marked.sized;
     right = pass.right (reaches es ts side goal) reaches_on marked.right;
     at_goal = pass.keeps goal marked.at_goal;
-    done = pass.done;
+    done = λ s x low. pass.done s x (omega arith) low;
   }
 
   -- when nothing more spreads, the marks are the nodes from which the goal is reached

@@ -15,12 +15,12 @@ is_marked marks v = slice_index_or marks v false
 abbrev pub unmarked : List Bool → ℕ
 unmarked marks = count_by not marks
 
--- a pass that has come to edge n, and whether it has changed nothing
+-- a pass that has come from the last edge down to edge n, and whether it has changed nothing
 pub record Pass (es : List Edge) (ts : List ℕ) (side : Side) (before after : List Bool) (settled : Bool) (n : ℕ) : Type 0 where
   pub sized : length after ≡ length before
   pub keeps : (v : ℕ) → is_marked before v ≡ true → is_marked after v ≡ true
   -- what holds of every mark before, and spreads over live edges, holds of every mark after
   pub right : (p : ℕ → Bool) → ((x : ℕ) → x < length es → Spread es ts side p x) →
       ((v : ℕ) → is_marked before v ≡ true → p v ≡ true) → (v : ℕ) → is_marked after v ≡ true → p v ≡ true
-  pub done : settled ≡ true → (x : ℕ) → x < n → Spread es ts side (is_marked after) x
+  pub done : settled ≡ true → (x : ℕ) → n ≤ x → x < length es → Spread es ts side (is_marked after) x
   pub fewer : unmarked after + one_if (not settled) ≤ unmarked before

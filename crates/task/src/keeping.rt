@@ -14,7 +14,7 @@ fn weighed(coefficient: i32, turns: u32) -> i128
     ensures value { result ≡ coefficient *ℤ pos turns }
     ensures small { Within (2 ^ 63) result }
 {
-    i128::from(coefficient) * i128::from(turns)
+    i128::from(i64::from(coefficient) * i64::from(turns))
 }
 
 impl Relation {

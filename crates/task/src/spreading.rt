@@ -1,5 +1,5 @@
 // Which nodes are joined to a node.
-ghost use Rattle.std.specs.Prelude.{◌≡◌, ℕ, ◌<◌, false, length, slice_index_or};
+ghost use Rattle.std.specs.Prelude.{◌≡◌, ℕ, ◌<◌, false, slice_index_or};
 ghost use Rattle.task.specs.Sides.{is_live, reaches};
 ghost use Rattle.task.specs.Spreading.{Pass};
 
@@ -15,14 +15,16 @@ impl Flow<'_> {
     }
 
     // One pass over the edges: marks each node from which a live edge leads to a marked one, and tells whether there was none.
+    // It goes from the last edge to the first: most edges lead to a node that later edges leave, so that few passes find all that reach the end.
     fn spread(self, side: Side, marks: &mut [bool; NODES]) -> bool
-        ensures { Pass self.entry.edges.now self.entry.turns.now side marks.old marks.new result (length self.entry.edges.now) }
+        ensures { Pass self.entry.edges.now self.entry.turns.now side marks.old marks.new result 0 }
     {
         let mut settled = true;
-        for (x, edge) in self.edges.iter().enumerate() {
+        for x in (0..self.edges.len()).rev() {
+            let edge = &self.edges[x];
             let from = usize::from(edge.node(side));
             let to = usize::from(edge.node(side.other()));
-            if self.is_live(x) && marks[to] && !marks[from] {
+            if !marks[from] && marks[to] && self.is_live(x) {
                 marks[from] = true;
                 settled = false;
             }

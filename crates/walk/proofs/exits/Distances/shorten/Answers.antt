@@ -1,4 +1,4 @@
-use Rattle.std.proofs.Common.{◌≡◌, ◌-◌, ◌<◌, length, arith, rules, get_or}
+use Rattle.std.proofs.Common.{◌-◌, ◌<◌, length, arith, rules, get_or}
 use Rattle.std.proofs.lemmas.Bool.{lt-ltb}
 use Rattle.task.specs.Graph.{tail_of, head_of}
 use Rattle.walk.proofs.Nearest.{pass_lowers}
