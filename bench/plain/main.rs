@@ -1,4 +1,4 @@
-//! A plain judge in ordinary Rust, written from docs/RULES.md alone: what `maxt` is measured against.
+//! A plain judge in ordinary Rust, the rules of docs/RULES.md: what `maxt` is measured against.
 //! Nothing of it is proved. It reads a session from standard input and prints the replies.
 mod calls;
 mod case;
