@@ -44,7 +44,7 @@ impl Flow<'_> {
     {
         let mut cycles: u128 = 0;
         let mut reads: u128 = 0;
-        // by index over the turns, both parts at once: a form that this project fixes
+        // by index over the turns, both parts at once: docs/DECISIONS.md, language forms
         for x in 0..self.edges.len().min(self.turns.len()) {
             let (more_cycles, more_reads) = self.edges[x].cost(self.turns[x]);
             cycles += more_cycles;
