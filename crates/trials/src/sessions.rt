@@ -4,15 +4,32 @@ use judge::Case;
 use std::fs;
 use std::io::Write;
 
-const SESSIONS: [&str; 8] = [
-    "drafting.txt",
-    "retry-loop.txt",
+const SESSIONS: [&str; 25] = [
+    "edges.txt",
+    "rows.txt",
+    "ends.txt",
+    "stages-certified.txt",
+    "stages-void.txt",
+    "turns.txt",
+    "turns-end-lowest.txt",
+    "stranded.txt",
+    "sums.txt",
+    "shapes.txt",
+    "ranges.txt",
+    "signs.txt",
+    "allowances.txt",
+    "bounds.txt",
+    "bounds-void.txt",
+    "lines.txt",
+    "wrong-bytes.txt",
+    "long-lines.txt",
+    "retry-loop-claims.txt",
     "exit-set-aside.txt",
     "half-integral-row.txt",
     "balanced-but-no-run.txt",
     "no-run.txt",
-    "copied-block.txt",
     "below-and-equal.txt",
+    "copied-block.txt",
 ];
 
 // Prints the replies of a session.
