@@ -4,7 +4,8 @@ use judge::Case;
 use std::fs;
 use std::io::Write;
 
-const SESSIONS: [&str; 25] = [
+// First both sides of every limit and question, then worked cases, then the sessions of examples/.
+const SESSIONS: [&str; 36] = [
     "edges.txt",
     "rows.txt",
     "ends.txt",
@@ -29,7 +30,18 @@ const SESSIONS: [&str; 25] = [
     "balanced-but-no-run.txt",
     "no-run.txt",
     "below-and-equal.txt",
+    "retry-loop.txt",
+    "matmult.txt",
+    "bsort.txt",
+    "heapsort.txt",
+    "bs.txt",
+    "state-machine.txt",
+    "exclusive-arms.txt",
+    "correlated-branches.txt",
     "copied-block.txt",
+    "copied-block-apart.txt",
+    "duff.txt",
+    "odd-buffer.txt",
 ];
 
 // Prints the replies of a session.
