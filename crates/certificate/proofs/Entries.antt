@@ -1,5 +1,5 @@
 -- What stands in a column, and a step of the sum over it.
-use Rattle.std.proofs.Common.{◌≡◌, ℕ, zero as none, suc, ◌+◌, Bool, true, false, cond, eqb, List, [], ◌∷◌, length, get_or, ℤ, pos, negsuc, sym, refl, ap, ◌∙◌, add-one, arith}
+use Rattle.std.proofs.Common.{◌≡◌, ℕ, zero as none, suc, ◌+◌, ◌<◌, Bool, true, false, cond, eqb, List, [], ◌∷◌, length, get_or, ℤ, pos, negsuc, sym, refl, ap, ◌∙◌, add-one, suc-add, zero-add, le_of_suc-le-suc, not-suc-le-zero, arith}
 use Rattle.std.proofs.lemmas.Int.{ints}
 use Rattle.price.specs.Pairs.{Pair, zero, ◌⊕◌, times}
 use Rattle.price.specs.Ranges.{Within}
@@ -20,6 +20,21 @@ pub entries_long : (column : Column) (rows : List Row) (path : List Branch) → 
 entries_long column [] [] = refl
 entries_long column [] (t ∷ ts) = let rest = entries_long column [] ts in omega arith
 entries_long column (r ∷ rs) ts = let rest = entries_long column rs ts in omega arith
+
+-- the entry of a row of the task, and of one of the path
+pub entry_of_row : (column : Column) (rows : List Row) (path : List Branch) (i : ℕ) (d : Row) → i < length rows → get_or (entries column rows path) i (pos 0) ≡ row_entry column (row_of (get_or rows i d))
+entry_of_row column [] ts i d low = absurd (not-suc-le-zero low)
+entry_of_row column (r ∷ rs) ts none d low = refl
+entry_of_row column (r ∷ rs) ts (suc i) d low = entry_of_row column rs ts i d (le_of_suc-le-suc low)
+
+pub entry_of_branch : (column : Column) (rows : List Row) (path : List Branch) (i : ℕ) (d : Branch) → i < length path → get_or (entries column rows path) (length rows + i) (pos 0) ≡ branch_entry column (branch_of (get_or path i d))
+entry_of_branch column (r ∷ rs) ts i d low = rw suc-add (entry_of_branch column rs ts i d low)
+entry_of_branch column [] ts i d low = rw zero-add (of_path ts i low)
+  where
+    of_path : (path : List Branch) (j : ℕ) → j < length path → get_or (entries column [] path) j (pos 0) ≡ branch_entry column (branch_of (get_or path j d))
+    of_path [] j low' = absurd (not-suc-le-zero low')
+    of_path (t ∷ ts') none low' = refl
+    of_path (t ∷ ts') (suc j) low' = of_path ts' j (le_of_suc-le-suc low')
 
 -- every entry is small
 row_small : (column : Column) (r : Row) → Within 1048577 (row_entry column (row_of r))

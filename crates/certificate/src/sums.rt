@@ -104,22 +104,30 @@ impl Leaf<'_> {
         self.claim.task.rows.len() + self.path.len()
     }
 
-    // What all rows charge in a column.
+    // What the rows of the task charge in a column.
+    fn charge_of_task(&self, column: Column) -> (i64, i64)
+        ensures value { result ≡ charged (entries column self.now.claim.task.rows.now self.now.path.now) (leaf_held self.now).multipliers (length self.now.claim.task.rows.now) }
+        ensures small { Both (70368811286528 * length self.now.claim.task.rows.now) result }
+    {
+        let mut cycles: i64 = 0;
+        let mut reads: i64 = 0;
+        for (i, row) in self.claim.task.rows.iter().enumerate() {
+            let charge = charge_of(row_entry(row, column), self.multiplier(i));
+            cycles += charge.0;
+            reads += charge.1;
+        }
+        (cycles, reads)
+    }
+
+    // What all rows charge in a column: those of the path follow those of the task.
     pub(crate) fn charge(&self, column: Column) -> (i64, i64)
         ensures value { result ≡ charged (entries column self.now.claim.task.rows.now self.now.path.now) (leaf_held self.now).multipliers (length self.now.claim.task.rows.now + length self.now.path.now) }
         ensures small { Both (70368811286528 * 36) result }
     {
-        let of_task = self
-            .claim
-            .task
-            .rows
-            .iter()
-            .map(|row| row_entry(row, column));
-        let of_path = self.path.iter().map(|branch| branch.entry(column));
-        let mut cycles: i64 = 0;
-        let mut reads: i64 = 0;
-        for (row, entry) in of_task.chain(of_path).enumerate() {
-            let charge = charge_of(entry, self.multiplier(row));
+        let rows = self.claim.task.rows.len();
+        let (mut cycles, mut reads) = self.charge_of_task(column);
+        for (i, branch) in self.path.iter().enumerate() {
+            let charge = charge_of(branch.entry(column), self.multiplier(rows + i));
             cycles += charge.0;
             reads += charge.1;
         }
