@@ -11,4 +11,3 @@ mod stages;
 
 pub use case::Case;
 pub use reports::Report;
-pub use stages::Stage;

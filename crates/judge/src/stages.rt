@@ -3,7 +3,7 @@ use price::Price;
 
 /// What a call does depends on the stage.
 #[derive(Clone, Copy, Debug, PartialEq, Eq)]
-pub enum Stage {
+pub(crate) enum Stage {
     /// Edges and rows are taken.
     Draft,
     /// The graph is fixed, between its two ends.
