@@ -1,7 +1,7 @@
 -- Sums and multiples of pairs, part by part.
-use Rattle.std.proofs.Common.{◌≡◌, ℕ, zero as none, suc, ℤ, pos, ◌+ℤ◌, sym, ap, ◌∙◌, arith}
+use Rattle.std.proofs.Common.{◌≡◌, ℕ, suc, ℤ, pos, ◌+ℤ◌, arith}
 use borrow.Author.Differences.{ints}
-use Rattle.price.specs.Pairs.{Pair, zero, ◌⊕◌, ◌⊖◌, times, sum}
+use Rattle.price.specs.Pairs.{Pair, zero, ◌⊕◌, ◌⊖◌, times}
 use Rattle.price.specs.Integers.{*ℤ-+ℤ, +ℤ-*ℤ}
 
 pub parts : {a b : Pair} → a.0 ≡ b.0 → a.1 ≡ b.1 → a ≡ b
@@ -40,11 +40,3 @@ times-⊕ n a b = parts (*ℤ-+ℤ n a.0 b.0) (*ℤ-+ℤ n a.1 b.1)
 
 pub +-times : (m n : ℤ) (a : Pair) → times (m +ℤ n) a ≡ times m a ⊕ times n a
 +-times m n a = parts (+ℤ-*ℤ m n a.0) (+ℤ-*ℤ m n a.1)
-
-pub sum-⊕ : (f g : ℕ → Pair) (n : ℕ) → sum (λ k. f k ⊕ g k) n ≡ sum f n ⊕ sum g n
-sum-⊕ f g none = sym (⊕-zero zero)
-sum-⊕ f g (suc n) = ap (λ s. s ⊕ (f n ⊕ g n)) (sum-⊕ f g n) ∙ ⊕-cross (sum f n) (sum g n) (f n) (g n)
-
-pub times_sum : (m : ℤ) (f : ℕ → Pair) (n : ℕ) → times m (sum f n) ≡ sum (λ k. times m (f k)) n
-times_sum m f none = times_zero m
-times_sum m f (suc n) = times-⊕ m (sum f n) (f n) ∙ ap (λ s. s ⊕ times m (f n)) (times_sum m f n)

@@ -1,6 +1,6 @@
 -- Tests by what they tell, passed and failed.
 use Rattle.std.specs.Prelude.{◌≡◌, Bool, true, false, not, ◌&&◌, ◌||◌, T, ◌⊎◌, refl}
-use Rattle.std.proofs.Common.{inl, inr, sym, ◌∙◌, subst}
+use Rattle.std.proofs.Common.{inl, inr}
 
 -- a test passes if it cannot fail, and fails if it cannot pass
 pub holds : (t : Bool) → (T (not t) → ⊥) → T t
@@ -19,13 +19,6 @@ clash false h n = h
 pub by_test : (t : Bool) → T t ⊎ T (not t)
 by_test true = inl tt
 by_test false = inr tt
-
--- an answer to the test t, as a call returned it
-pub told_yes : {r t : Bool} → r ≡ t → r ≡ true → T t
-told_yes e yes! = subst T (sym yes! ∙ e) tt
-
-pub told_no : {r t : Bool} → r ≡ t → r ≡ false → T (not t)
-told_no e no! = subst (λ b. T (not b)) (sym no! ∙ e) tt
 
 pub is_yes : (t : Bool) → T t → true ≡ t
 is_yes true h = refl
