@@ -6,7 +6,7 @@ use Rattle.task.specs.declared.edges.Edge.{Edge}
 use Rattle.task.specs.Turns.{block_turns}
 use Rattle.task.specs.Rows.{Row, coefficient, weigh, row_sum}
 use Rattle.task.proofs.Linear.{spot, Linear}
-use Rattle.task.proofs.ByPlaces.{by_test, no_turns, swap, weigh_none, weigh_add, weigh_spot}
+use Rattle.task.proofs.ByPlaces.{no_turns, more_turns, swap, weigh_none, weigh_add, weigh_spot}
 
 -- the coefficient of the edge's block × its turns, added up over the edges
 abbrev pub by_edges : Row → List Edge → List ℕ → ℤ
@@ -34,7 +34,7 @@ weigh_turns : (b t : ℕ) (cs : List ℤ) → weigh (λ i. cond (eqb b i) t 0) 0
 weigh_turns b zero cs = (λ j. weigh (λ i. no_turns (eqb b i) j) 0 cs) ∙ weigh_none 0 cs ∙ omega (arith, ints)
 weigh_turns b (suc t) cs =
     rw (← add-one t)
-    ((λ j. weigh (λ i. by_test (eqb b i) t 1 j) 0 cs) ∙ weigh_add (λ i. cond (eqb b i) t 0) (spot b) 0 cs
+    ((λ j. weigh (λ i. more_turns (eqb b i) t 1 j) 0 cs) ∙ weigh_add (λ i. cond (eqb b i) t 0) (spot b) 0 cs
     ∙ (λ j. weigh_turns b t cs j +ℤ weigh_spot b cs j) ∙ omega (arith, ints))
 
 pub row_by_edges : (row : Row) (es : List Edge) (ts : List ℕ) → row_sum es row ts ≡ by_edges row es ts

@@ -23,9 +23,9 @@ runs_exist es run r = path_exists es r.start r.end run r.leads
 
 -- ---- blocks
 
-pub by_test : (b : Bool) (m n : ℕ) → cond b (m + n) 0 ≡ cond b m 0 + cond b n 0
-by_test true m n = refl
-by_test false m n = refl
+pub more_turns : (b : Bool) (m n : ℕ) → cond b (m + n) 0 ≡ cond b m 0 + cond b n 0
+more_turns true m n = refl
+more_turns false m n = refl
 
 pub no_turns : (b : Bool) → ◌≡◌ {A = ℕ} (cond b 0 0) 0
 no_turns true = refl
@@ -37,7 +37,7 @@ turns_linear p = record {
   turns_end = λ e es. refl;
   one_more = λ e es t ts. refl;
   no_turns = λ e. no_turns (p e);
-  more_turns = λ e m n. by_test (p e) m n;
+  more_turns = λ e m n. more_turns (p e) m n;
   add_none = λ a. omega arith;
   none_add = λ a. omega arith;
   crosses = λ a b c d. omega arith;

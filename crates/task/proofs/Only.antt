@@ -27,10 +27,10 @@ first_says p n = go (ltb (lowest p n) n) refl
 
 -- ---- the only one
 
--- the search has come to n, and this is what it found
-abbrev pub Sofar : (ℕ → Bool) → ℕ → Option ℕ → Type 0
-Sofar p n None = (v : ℕ) → v < n → p v ≡ false
-Sofar p n (Some s) = (s < n) × (p s ≡ true) × ((v : ℕ) → v < n → p v ≡ true → v ≡ s)
+-- no number below n passes, or this one alone
+abbrev AtMostOne : (ℕ → Bool) → ℕ → Option ℕ → Type 0
+AtMostOne p n None = (v : ℕ) → v < n → p v ≡ false
+AtMostOne p n (Some s) = (s < n) × (p s ≡ true) × ((v : ℕ) → v < n → p v ≡ true → v ≡ s)
 
 -- what the answer says: this number alone passes; or no number does so alone
 abbrev pub Sole : (ℕ → Bool) → ℕ → Option ℕ → Type 0
@@ -39,29 +39,27 @@ Sole p n None = (s : ℕ) → s < n → p s ≡ true → ((v : ℕ) → v < n �
 
 module _ (p : ℕ → Bool) where
   module _ (n : ℕ) where
-    pub sole_two : (s v : ℕ) → s < v → v < n → p s ≡ true → p v ≡ true → None ≡ sole p n
+    -- v passes, above the lowest that does
+    abbrev second : ℕ → Bool
+    second v = p v && ltb (lowest p n) v
+
+    sole_two : (s v : ℕ) → s < v → v < n → p s ≡ true → p v ≡ true → None ≡ sole p n
     sole_two s v lt low first_met met =
         sym (cond-true (ltb (lowest second n) n) None (first p n) (lt-ltb (lowest second n) n (omega (arith, lowest_le second n v test))))
       where
-        second : ℕ → Bool
-        second v = p v && ltb (lowest p n) v
-
         test : second v ≡ true
         test = and_from (p v) (ltb (lowest p n) v) met (lt-ltb (lowest p n) v (omega (arith, lowest_le p n s first_met)))
 
     no_second : ((v : ℕ) → v < n → p v ≡ true → v ≤ lowest p n) → sole p n ≡ first p n
     no_second all = cond-false (ltb (lowest second n) n) None (first p n) (le-ltb (lowest second n) n (lowest_none second n miss))
       where
-        second : ℕ → Bool
-        second v = p v && ltb (lowest p n) v
-
         miss : (v : ℕ) → v < n → second v ≡ false
         miss v low = ⊎_elim
             (λ met. and_right (p v) (ltb (lowest p n) v) (le-ltb (lowest p n) v (all v low met)))
             (λ none. and_left (p v) (ltb (lowest p n) v) none)
             (cases_Bool (p v))
 
-    pub sole_is : (only : Option ℕ) → Sofar p n only → only ≡ sole p n
+    sole_is : (only : Option ℕ) → AtMostOne p n only → only ≡ sole p n
     sole_is None so = first_none p n so ∙ sym (no_second (λ v low met. absurd (both_ways (p v) (so v low) met)))
     sole_is (Some s) so =
         let miss : (y : ℕ) → y < s → p y ≡ false =
@@ -72,9 +70,6 @@ module _ (p : ℕ → Bool) where
     pub sole_says : Sole p n (sole p n)
     sole_says = go (ltb (lowest second n) n) refl
       where
-        second : ℕ → Bool
-        second v = p v && ltb (lowest p n) v
-
         one : n ≤ lowest second n → (b : Bool) → ltb (lowest p n) n ≡ b → Sole p n (cond b (Some (lowest p n)) None)
         one high true h =
             let low = ltb-true (lowest p n) n h in (

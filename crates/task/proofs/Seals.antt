@@ -28,12 +28,12 @@ node_below es v node = node_low es node.edge v node.exists node.named
 later : (e : Edge) (es : List Edge) (v : ℕ) → Node es v → Node (e ∷ es) v
 later e es v node = record { edge = suc node.edge; exists = omega (arith, node.exists); named = node.named }
 
-three : (a b c v : ℕ) → v < max (max (a + 1) (b + 1)) c → (v ≤ a) ⊎ ((v ≤ b) ⊎ (v < c))
-three a b c v h = grind arith
+under_max : (a b c v : ℕ) → v < max (max (a + 1) (b + 1)) c → (v ≤ a) ⊎ ((v ≤ b) ⊎ (v < c))
+under_max a b c v h = grind arith
 
 pub below_node : (es : List Edge) (v : ℕ) → v < node_count es → Node es v
 below_node [] v h = absurd (not-suc-le-zero h)
-below_node (e ∷ es) v h = go (three e.tail e.head (node_count es) v h) (below_node es v)
+below_node (e ∷ es) v h = go (under_max e.tail e.head (node_count es) v h) (below_node es v)
   where
     go : (v ≤ e.tail) ⊎ ((v ≤ e.head) ⊎ (v < node_count es)) → (v < node_count es → Node es v) → Node (e ∷ es) v
     go (inl le) ih = record { edge = 0; exists = omega arith; named = inl le }

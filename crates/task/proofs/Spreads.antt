@@ -13,19 +13,7 @@ use Rattle.task.proofs.Reach.{reach_way, way_reach, spread_way}
 
 -- ---- one pass, from the last edge to the first
 
-module _ (es : List Edge) (ts : List ℕ) (side : Side) (before after : List Bool) (settled : Bool) (n x : ℕ) (next : n ≤ x + 1) (pass : Pass es ts side before after settled n) where
-  pub pass_goes_by : Spread es ts side (is_marked after) x → Pass es ts side before after settled x
-  pass_goes_by here = record {
-    sized = pass.sized;
-    keeps = pass.keeps;
-    right = pass.right;
-    done = λ s y from low. ⊎_elim
-        (λ (e : y ≡ x). subst (Spread es ts side (is_marked after)) (sym e) here)
-        (λ (ne : y ≡ x → ⊥). pass.done s y (omega (arith, from, ne, next)) low)
-        (cases_eq y x);
-    fewer = pass.fewer;
-  }
-
+module _ (es : List Edge) (ts : List ℕ) (side : Side) (before after : List Bool) (settled : Bool) (n x : ℕ) (pass : Pass es ts side before after settled n) where
   pub pass_marks : x < length es → is_live ts x ≡ true → is_marked after (end_of es (other_side side) x) ≡ true →
       end_of es side x < length after → is_marked after (end_of es side x) ≡ false → Pass es ts side before (set after (end_of es side x) true) false x
   pass_marks low on there small blank =

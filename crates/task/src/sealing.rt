@@ -30,20 +30,20 @@ fn touches(edges: &[Edge], side: Side, node: usize) -> bool
         .any(|edge| usize::from(edge.node(side)) == node)
 }
 
-// The lowest node from `from` on that no edge has on that side.
-fn first_free(edges: &[Edge], side: Side, from: usize) -> Option<usize>
-    ensures found { FirstFrom (untouched side edges.now) from (node_count edges.now) result }
-    ensures low { IfSome result (λ node. node < 256) }
+// The lowest node from `from` on, below `count`, that no edge has on that side.
+fn first_free(edges: &[Edge], side: Side, from: usize, count: usize) -> Option<usize>
+    ensures { FirstFrom (untouched side edges.now) from count result }
 {
-    (from..nodes(edges)).find(|node| !touches(edges, side, *node))
+    (from..count).find(|node| !touches(edges, side, *node))
 }
 
 // The only node that no edge has on that side.
 fn only_free(edges: &[Edge], side: Side) -> Option<u8>
     ensures { result ≡ sole (untouched side edges.now) (node_count edges.now) }
 {
-    let only = first_free(edges, side, 0)?;
-    match first_free(edges, side, only + 1) {
+    let count = nodes(edges);
+    let only = first_free(edges, side, 0, count)?;
+    match first_free(edges, side, only + 1, count) {
         Some(_) => None,
         None => u8::try_from(only).ok(),
     }

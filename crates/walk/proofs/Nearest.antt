@@ -14,18 +14,7 @@ use Rattle.walk.proofs.Reach.{hop_leaves, near_end, near_on}
 
 -- ---- one pass, from the last edge to the first
 
-module _ (es : List Edge) (ts before after : List ℕ) (settled : Bool) (n x : ℕ) (next : n ≤ x + 1) (pass : Pass es ts before after settled n) where
-  pub pass_goes_by : Relaxed es ts after x → Pass es ts before after settled x
-  pass_goes_by here = record {
-    sized = pass.sized;
-    lower = pass.lower;
-    right = pass.right;
-    done = λ s y from low. ⊎_elim
-        (λ (e : y ≡ x). subst (Relaxed es ts after) (sym e) here)
-        (λ (ne : y ≡ x → ⊥). pass.done s y (omega (arith, from, ne, next)) low)
-        (cases_eq y x);
-    fewer = pass.fewer;
-  }
+module _ (es : List Edge) (ts before after : List ℕ) (settled : Bool) (n x : ℕ) (pass : Pass es ts before after settled n) where
 
   module _ (low : x < length es) (on : has_turns ts x ≡ true) (small : tail_of es x < length after) (small' : head_of es x < length after)
       (less : get_or after (head_of es x) 0 + 1 < get_or after (tail_of es x) 0) where
