@@ -1,6 +1,7 @@
 -- What lies ahead of the judge in the list: the records of the tree that are left.
 use Rattle.std.proofs.Common.{◌≡◌, ℕ, zero as none, suc, ◌+◌, ◌*◌, ◌<◌, ◌≤◌, Bool, List, [], ◌∷◌, ◌++◌, length, ℤ, pos, nat_abs, Some, None, Ok, Err, sym, refl, ap, ◌∙◌, subst, subst₂, append_assoc, arith, length-append}
 use Rattle.std.proofs.lemmas.List.{append-nil}
+use Rattle.std.proofs.lemmas.Option.{none-some, same_Some}
 use Rattle.price.specs.Pairs.{Pair}
 use Rattle.price.specs.declared.refusals.Refusal.{Refusal}
 use Rattle.certificate.specs.Lines.{leaf_of}
@@ -12,7 +13,7 @@ use Rattle.certificate.specs.Trees.{Tree, leaf, split, TreeRecord, leaf_record, 
 use Rattle.certificate.specs.Verdicts.{before, leaf_answer, leaves_answer, tree_answer}
 use Rattle.certificate.proofs.Left.{records, left, left_all}
 use Rattle.certificate.proofs.Onward.{onward_first, onward_second}
-use Rattle.certificate.proofs.Spellings.{never, some_same, leaf_whole}
+use Rattle.certificate.proofs.Spellings.{leaf_whole}
 
 module _ (nodes rows : ℕ) where
   -- a leaf under these splits
@@ -109,12 +110,12 @@ module _ (nodes rows : ℕ) where
     next ts n xs so w r = go so.of so.spelled_by so.same
       where
         go : (rs : List TreeRecord) → Ahead ts rs xs → leaves_answer le unit task c n (left task ts rs) ≡ all → At ts n xs w
-        go [] e same = never w (sym (ap (first_record nodes (rows + length ts)) e) ∙ r)
+        go [] e same = absurd (none-some w (sym (ap (first_record nodes (rows + length ts)) e) ∙ r))
         go (leaf_record d ps ms ∷ rs) (ys, e, f, then) same =
-            subst (At ts n xs) (some_same (leaf_record d ps ms, ys) w (sym (first_is_leaf ts xs d ps ms ys e f) ∙ r)) (at_leaf ts n xs rs so.counted d ps ms ys same e f then)
+            subst (At ts n xs) (same_Some (leaf_record d ps ms, ys) w (sym (first_is_leaf ts xs d ps ms ys e f) ∙ r)) (at_leaf ts n xs rs so.counted d ps ms ys same e f then)
         go (split_record x y ∷ rs) (ys, e, h, k, then) same =
             let long : length xs ≡ 3 + length ys = ap length e ∙ omega arith in
-            subst (At ts n xs) (some_same (split_record x y, ys) w (sym (ap (first_record nodes (rows + length ts)) e) ∙ r)) (record {
+            subst (At ts n xs) (same_Some (split_record x y, ys) w (sym (ap (first_record nodes (rows + length ts)) e) ∙ r)) (record {
               room = h;
               few = k;
               shorter = omega arith;
@@ -127,8 +128,8 @@ module _ (nodes rows : ℕ) where
       where
         go : (rs : List TreeRecord) → Ahead ts rs xs → leaves_answer le unit task c n (left task ts rs) ≡ all → Ok tt ≡ all
         go [] e same = same
-        go (leaf_record d ps ms ∷ rs) (ys, e, f, then) same = never (leaf_record d ps ms, ys) (sym r ∙ first_is_leaf ts xs d ps ms ys e f)
-        go (split_record x y ∷ rs) (ys, e, h, k, then) same = never (split_record x y, ys) (sym r ∙ ap (first_record nodes (rows + length ts)) e)
+        go (leaf_record d ps ms ∷ rs) (ys, e, f, then) same = absurd (none-some (leaf_record d ps ms, ys) (sym r ∙ first_is_leaf ts xs d ps ms ys e f))
+        go (split_record x y ∷ rs) (ys, e, h, k, then) same = absurd (none-some (split_record x y, ys) (sym r ∙ ap (first_record nodes (rows + length ts)) e))
 
   -- before the first record
   pub begun : (le : Pair → Pair → Bool) (unit : Pair) (task : Task) (c : Pair) (xs : List ℤ) (j : Judgeable nodes rows xs) →

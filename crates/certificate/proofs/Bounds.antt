@@ -2,6 +2,7 @@
 use Rattle.std.proofs.Common.{◌≡◌, ℕ, zero as none, suc, ◌+◌, ◌≤◌, Bool, true, false, List, [], ◌∷◌, ◌++◌, length, ℤ, pos, negsuc, nat_abs, ◌≤ℤ◌, Ok, Err, sym, refl, ◌∙◌, arith}
 use borrow.Author.Differences.{ints}
 use lib.Signed.{le_z}
+use Rattle.std.proofs.lemmas.Bool.{and_parts}
 use Rattle.price.specs.declared.refusals.Refusal.TheVariants.{TreeRange}
 use Rattle.task.specs.Coefficients.{in_range}
 use Rattle.certificate.specs.RangeTests.{inside, exists, near, record_tests, tests}
@@ -10,15 +11,15 @@ use Rattle.certificate.specs.Tasks.{Answer}
 use Rattle.certificate.specs.Trees.{Tree, leaf, split, split_record}
 use Rattle.certificate.specs.Verdicts.{before, range_answer}
 use Rattle.certificate.proofs.Firsts.{first_append}
-use Rattle.certificate.proofs.Smalls.{both, within_is}
+use Rattle.certificate.proofs.Smalls.{within_is}
 
 head : (p : ℕ) (b : Bool) (bs : List Bool) → range_answer p (b ∷ bs) ≡ Ok tt → (b ≡ true) × (range_answer (p + 1) bs ≡ Ok tt)
 head p true bs e = (refl, e)
-head p false bs e = let z : ◌≡◌ {A = ℕ} 0 1 = cc in absurd (omega arith)
+head p false bs e = cc
 
 pub neither : (a b : Answer) → before a b ≡ Ok tt → (a ≡ Ok tt) × (b ≡ Ok tt)
 neither (Ok u) b e = (refl, e)
-neither (Err x) b e = let z : ◌≡◌ {A = ℕ} 0 1 = cc in absurd (omega arith)
+neither (Err x) b e = cc
 
 parts : (p : ℕ) (bs cs : List Bool) → range_answer p (bs ++ cs) ≡ Ok tt → (range_answer p bs ≡ Ok tt) × (range_answer (p + length bs) cs ≡ Ok tt)
 parts p bs cs e = neither (range_answer p bs) (range_answer (p + length bs) cs) (sym (first_append (λ i b. b) TreeRange p bs cs) ∙ e)
@@ -29,8 +30,8 @@ small p (x ∷ xs) e none = within_is 67108864 x (head p (in_range 67108864 x) (
 small p (x ∷ xs) e (suc k) = small (p + 1) xs (head p (in_range 67108864 x) (near xs) e).1 k
 
 pub limited : (high z : ℤ) (n : ℕ) → high ≤ℤ pos n → inside (pos 0) high z ≡ true → nat_abs z ≤ n
-limited high (pos k) n h e = let t = both (le_z (pos 0) (pos k)) (le_z (pos k) high) e in grind (arith, ints, t)
-limited high (negsuc k) n h e = let t = both (le_z (pos 0) (negsuc k)) (le_z (negsuc k) high) e in grind (arith, ints, t)
+limited high (pos k) n h e = let t = and_parts (le_z (pos 0) (pos k)) (le_z (pos k) high) e in grind (arith, ints, t)
+limited high (negsuc k) n h e = let t = and_parts (le_z (pos 0) (negsuc k)) (le_z (negsuc k) high) e in grind (arith, ints, t)
 
 pub bounded : (edges : ℕ) (top : ℤ) (t : Tree) (p : ℕ) → top ≤ℤ pos 1000 → range_answer p (tests edges top t) ≡ Ok tt → Bounded t
 bounded edges top (leaf d ps ms) p h e =

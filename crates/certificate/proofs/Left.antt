@@ -1,6 +1,6 @@
 -- The leaves of the records that are left, each under the splits of its path.
 use Rattle.std.proofs.Common.{◌≡◌, List, [], ◌∷◌, ◌++◌, map, nat_abs, sym, refl, ap, ◌∙◌, append_assoc}
-use Rattle.std.proofs.lemmas.List.{append-nil}
+use Rattle.std.proofs.lemmas.List.{append-nil, map_push}
 use Rattle.certificate.specs.Lines.{Line, Leaf, leaf_of, leaves, case_lines}
 use Rattle.certificate.specs.Splits.{Branch, first_of, second_of, path_line, lines_at, onward}
 use Rattle.certificate.specs.Tasks.{Task}
@@ -12,13 +12,9 @@ abbrev pub records : Tree → List TreeRecord
 records (leaf d ps ms) = leaf_record d ps ms ∷ []
 records (split e m a b) = split_record e m ∷ (records a ++ records b)
 
-map_push : (ts : List Branch) (t : Branch) → map path_line (ts ++ (t ∷ [])) ≡ map path_line ts ++ (path_line t ∷ [])
-map_push [] t = refl
-map_push (u ∷ ts) t = ap (λ l. path_line u ∷ l) (map_push ts t)
-
 module _ (task : Task) where
   lines_push : (ts : List Branch) (t : Branch) → lines_at task (ts ++ (t ∷ [])) ≡ lines_at task ts ++ (path_line t ∷ [])
-  lines_push ts t = ap (λ l. case_lines task ++ l) (map_push ts t) ∙ sym (append_assoc (case_lines task) (map path_line ts) (path_line t ∷ []))
+  lines_push ts t = ap (λ l. case_lines task ++ l) (map_push path_line ts t) ∙ sym (append_assoc (case_lines task) (map path_line ts) (path_line t ∷ []))
 
   -- the first record stands under these splits
   abbrev pub left : List Branch → List TreeRecord → List (List Line × Leaf)

@@ -2,6 +2,7 @@
 use Rattle.std.proofs.Common.{◌≡◌, ℕ, suc, ◌+◌, Bool, true, false, not, T, ◌⊎◌, List, [], ◌∷◌, ◌++◌, length, ℤ, Some, None, Ok, Option, sym, refl, ap, ◌∙◌, subst, inl, inr, arith}
 use Rattle.std.specs.List.{AllByRecursion}
 use Rattle.std.proofs.ByRecursion.{All-from_get_or}
+use Rattle.std.proofs.lemmas.Option.{none-some}
 use Rattle.price.specs.Pairs.{Pair}
 use Rattle.price.specs.Questions.{ask}
 use Rattle.price.specs.declared.refusals.Refusal.TheVariants.{TreeRange, MultiplierSign, AllowanceShort, BoundTooHigh}
@@ -16,7 +17,6 @@ use Rattle.certificate.specs.Tasks.{Task, Answer}
 use Rattle.certificate.specs.Trees.{Tree}
 use Rattle.certificate.specs.Verdicts.{before, edges_answer, leaf_answer, leaves_answer, tree_answer, found_answer, list_answer}
 use Rattle.certificate.proofs.Lowests.{First, first_means}
-use Rattle.certificate.proofs.Spellings.{never}
 use Rattle.certificate.proofs.Wholes.{whole_tree, whole_spelled, spells_it}
 
 module _ (le : Pair → Pair → Bool) (unit : Pair) (task : Task) (c : Pair) where
@@ -119,7 +119,7 @@ module _ (le : Pair → Pair → Bool) (unit : Pair) (task : Task) (c : Pair) wh
     by_range t s (inr f) = out_of_range t s f.0 (ap (λ a. before a (tree_answer le unit task c t)) f.1) f.2
 
     by_tree : (o : Option Tree) → whole (read_tree 12 (node_count task.edges) (length task.rows) xs) ≡ o → OfList le unit task c top xs (found_answer le unit task c top o)
-    by_tree None e = not_one_tree refl (λ t s. never t (sym e ∙ whole_spelled (node_count task.edges) (length task.rows) xs t s))
+    by_tree None e = not_one_tree refl (λ t s. none-some t (sym e ∙ whole_spelled (node_count task.edges) (length task.rows) xs t s))
     by_tree (Some t) e = by_range t (spells_it _ _ xs t (whole_tree _ t e)) (first_means (λ i b. b) TreeRange true (tests (length task.edges) top t))
 
     pub list_means : OfList le unit task c top xs (list_answer le unit task c top xs)

@@ -1,14 +1,11 @@
 -- The way of the path table behind a leaf.
-use Rattle.std.proofs.Common.{◌≡◌, ℕ, Bool, true, false, cond, not, ◌||◌, List, [], ◌∷◌, ◌++◌, refl, ap, ◌∙◌}
+use Rattle.std.proofs.Common.{◌≡◌, ℕ, true, cond, not, ◌||◌, List, [], ◌∷◌, ◌++◌, refl, ap, ◌∙◌}
+use Rattle.std.proofs.Math.Bool.{or-true}
 use Rattle.certificate.specs.Splits.{Branch, first_of, second_of, unfinished, onward}
-
-or_true : (b : Bool) → b || true ≡ true
-or_true true = refl
-or_true false = refl
 
 unfinished_first : (ts : List Branch) (e m : ℕ) → unfinished (ts ++ (first_of e m ∷ [])) ≡ true
 unfinished_first [] e m = refl
-unfinished_first (t ∷ ts) e m = ap (λ b. not t.second || b) (unfinished_first ts e m) ∙ or_true (not t.second)
+unfinished_first (t ∷ ts) e m = ap (λ b. not t.second || b) (unfinished_first ts e m) ∙ or-true (not t.second)
 
 -- the last split was in its first tree
 pub onward_first : (ts : List Branch) (e m : ℕ) → onward (ts ++ (first_of e m ∷ [])) ≡ ts ++ (second_of e m ∷ [])

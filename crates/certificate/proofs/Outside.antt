@@ -1,7 +1,9 @@
 -- The first number out of range: of a leaf, of a split, and of its two trees.
-use Rattle.std.proofs.Common.{◌≡◌, ℕ, ◌+◌, ◌-◌, ◌≤◌, Bool, true, List, [], ◌∷◌, ◌++◌, length, ℤ, Ok, Err, Result, sym, refl, ap, ◌∙◌, arith, length-append}
+use Rattle.std.proofs.Common.{◌≡◌, ℕ, ◌+◌, ◌-◌, ◌≤◌, Bool, true, List, ◌∷◌, ◌++◌, length, ℤ, Ok, Err, Result, sym, refl, ap, ◌∙◌, arith, length-append}
 use Rattle.price.specs.declared.refusals.Refusal.{Refusal}
 use Rattle.price.specs.declared.refusals.Refusal.TheVariants.{TreeRange}
+use Rattle.std.proofs.lemmas.List.{length-map}
+use Rattle.task.specs.Coefficients.{in_range}
 use Rattle.certificate.specs.Held.{behind}
 use Rattle.certificate.specs.RangeTests.{near, record_tests, tests}
 use Rattle.certificate.specs.Tasks.{Answer}
@@ -11,20 +13,19 @@ use Rattle.certificate.proofs.Firsts.{first_append}
 use Rattle.certificate.proofs.Seen.{Seen}
 
 pub behind_err : (a : Answer) (zs : List ℤ) (e : Refusal) → ◌≡◌ {A = Result (List ℤ) Refusal} (Err e) (behind a zs) → a ≡ Err e
-behind_err (Ok u) zs e h = let z : ◌≡◌ {A = ℕ} 0 1 = cc in absurd (omega arith)
+behind_err (Ok u) zs e h = cc
 behind_err (Err d) zs e h = cc
 
 pub behind_ok : (a : Answer) (zs us : List ℤ) → ◌≡◌ {A = Result (List ℤ) Refusal} (Ok us) (behind a zs) → (a ≡ Ok tt) × (us ≡ zs)
 behind_ok (Ok u) zs us h = (refl, cc)
-behind_ok (Err d) zs us h = let z : ◌≡◌ {A = ℕ} 0 1 = cc in absurd (omega arith)
+behind_ok (Err d) zs us h = cc
 
 -- what is left behind a front
 pub shorter : (xs us ws zs : List ℤ) → us ≡ ws → xs ++ ws ≡ zs → length xs + length us ≡ length zs
 shorter xs us ws zs p q = ap (λ l. length xs + length l) p ∙ sym (length-append xs ws) ∙ ap length q
 
 near_long : (xs : List ℤ) → length (near xs) ≡ length xs
-near_long [] = refl
-near_long (x ∷ xs) = let rest = near_long xs in omega arith
+near_long xs = length-map xs (in_range 67108864)
 
 -- a leaf whose scale has passed
 pub leaf_range : (p : ℕ) (ok : Bool) (ps ms : List ℤ) → ok ≡ true →

@@ -1,12 +1,11 @@
 -- What an answer means, and what an accepted tree proves.
-use Rattle.std.proofs.Common.{◌≡◌, ℕ, ◌^◌, ◌≤◌, Bool, true, false, ◌&&◌, leb, List, length, ℤ, pos, Ok, Err, refl, arith}
+use Rattle.std.proofs.Common.{◌≡◌, ℕ, ◌^◌, ◌≤◌, Bool, true, false, ◌&&◌, leb, List, length, ℤ, pos, Ok, refl}
 use Rattle.price.specs.Laws.{Laws}
 use Rattle.price.specs.Pairs.{Pair}
 use Rattle.price.specs.Questions.{ask}
-use Rattle.price.specs.declared.refusals.Refusal.{Refusal}
 use Rattle.price.specs.declared.refusals.Refusal.TheVariants.{EdgesFull, RowsFull, PriceRange}
 use Rattle.std.specs.List.{AllByRecursion}
-use Rattle.std.proofs.lemmas.Bool.{leb-true, leb-false}
+use Rattle.std.proofs.lemmas.Bool.{leb-true, leb-false, and_parts}
 use Rattle.task.specs.Coefficients.{in_range}
 use Rattle.certificate.specs.Judged.{InRange, Judged, Passes, edges_full, rows_full, price_range, of_list, not_one_tree, out_of_range, leaf_fails, proved, Fails, sign, allowance, bound}
 use Rattle.certificate.specs.Lines.{Line, Leaf, leaves, case_lines}
@@ -15,11 +14,8 @@ use Rattle.certificate.specs.Tasks.{Task, Answer}
 use Rattle.certificate.specs.Trees.{Tree}
 use Rattle.certificate.specs.Verdicts.{list_answer, task_answer}
 use Rattle.certificate.proofs.Meanings.{list_means}
-use Rattle.certificate.proofs.Smalls.{both, within_is, outside_is}
+use Rattle.certificate.proofs.Smalls.{within_is, outside_is}
 use Rattle.certificate.proofs.Theorems.{none_dearer, no_run}
-
-refused : {A : Type 0} {a : Answer} {e : Refusal} → a ≡ Err e → a ≡ Ok tt → A
-refused p q = let z : ◌≡◌ {A = ℕ} 0 1 = cc in absurd (omega arith)
 
 module _ (le : Pair → Pair → Bool) (unit : Pair) (task : Task) (c : Pair) (top : ℤ) (xs : List ℤ) where
   abbrev J : Answer → Type 0
@@ -27,7 +23,7 @@ module _ (le : Pair → Pair → Bool) (unit : Pair) (task : Task) (c : Pair) (t
 
   by_price : length task.edges ≤ 64 → length task.rows ≤ 24 → (b : Bool) → in_range (2 ^ 42) c.0 && in_range (2 ^ 42) c.1 ≡ b → J (ask b PriceRange (list_answer le unit task c top xs))
   by_price es rs true e =
-      let t = both (in_range (2 ^ 42) c.0) (in_range (2 ^ 42) c.1) e in
+      let t = and_parts (in_range (2 ^ 42) c.0) (in_range (2 ^ 42) c.1) e in
       of_list es rs (within_is (2 ^ 42) c.0 t.0, within_is (2 ^ 42) c.1 t.1) (list_means le unit task c top xs)
   by_price es rs false e = price_range refl es rs (λ f. outside_is (2 ^ 42) c.0 c.1 f e)
 
@@ -44,18 +40,18 @@ module _ (le : Pair → Pair → Bool) (unit : Pair) (task : Task) (c : Pair) (t
   judged = by_edges (leb (length task.edges) 64) refl
 
   fails_refused : {A : Type 0} {lines : List Line} {l : Leaf} {n : ℕ} {a : Answer} → Fails le unit task c lines l n a → a ≡ Ok tt → A
-  fails_refused (sign row e f) q = refused e q
-  fails_refused (allowance edge e s f) q = refused e q
-  fails_refused (bound e s a f) q = refused e q
+  fails_refused (sign row e f) q = cc
+  fails_refused (allowance edge e s f) q = cc
+  fails_refused (bound e s a f) q = cc
 
   -- an answer that accepts proves what a tree whose leaves all pass proves
   accepted : {P : Type 0} {a : Answer} → ((t : Tree) → InRange task top t → AllByRecursion (λ x. Passes le unit task c x.0 x.1) (leaves (case_lines task) t) → P) →
       Judged le unit task c top xs a → a ≡ Ok tt → P
-  accepted proves (edges_full e h) q = refused e q
-  accepted proves (rows_full e h k) q = refused e q
-  accepted proves (price_range e h k f) q = refused e q
-  accepted proves (of_list h k f (not_one_tree e n)) q = refused e q
-  accepted proves (of_list h k f (out_of_range t s place e n)) q = refused e q
+  accepted proves (edges_full e h) q = cc
+  accepted proves (rows_full e h k) q = cc
+  accepted proves (price_range e h k f) q = cc
+  accepted proves (of_list h k f (not_one_tree e n)) q = cc
+  accepted proves (of_list h k f (out_of_range t s place e n)) q = cc
   accepted proves (of_list h k f (leaf_fails t s r ps rest lines l e ok n)) q = fails_refused n q
   accepted proves (of_list h k f (proved e t s r ok)) q = proves t r ok
 

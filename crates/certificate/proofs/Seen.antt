@@ -1,10 +1,11 @@
 -- The record that a tree's list begins with.
 use Rattle.std.proofs.Common.{◌≡◌, ℕ, zero as none, suc, ◌+◌, ◌-◌, ◌*◌, ◌<◌, List, ◌∷◌, ◌++◌, length, ℤ, pos, Some, None, Option, sym, refl, ap, ◌∙◌, subst, append_assoc, arith, length-append}
+use Rattle.std.proofs.lemmas.Option.{none-some, same_Some}
 use Rattle.certificate.specs.declared.reading.Record.{Record}
 use Rattle.certificate.specs.Held.{held, long}
 use Rattle.certificate.specs.Reading.{first_record}
 use Rattle.certificate.specs.Trees.{Tree, leaf, split, TreeRecord, leaf_record, split_record, spelled, Fits}
-use Rattle.certificate.proofs.Spellings.{never, some_same, leaf_whole}
+use Rattle.certificate.proofs.Spellings.{leaf_whole}
 
 module _ (n r : ℕ) where
   pub record SeenLeaf (t : Tree) (ys : List ℤ) (d : ℤ) (ps ms zs : List ℤ) : Type 0 where
@@ -33,7 +34,7 @@ module _ (n r : ℕ) where
   at_leaf : (k : ℕ) (d : ℤ) (ps ms ys xs : List ℤ) → length ps ≡ 2 * n → length ms ≡ 2 * r → pos 0 ∷ d ∷ ((ps ++ ms) ++ ys) ≡ xs →
       (w : TreeRecord × List ℤ) → first_record n r xs ≡ Some w → Whole k (leaf d ps ms) ys xs w
   at_leaf k d ps ms ys xs p q e w h =
-      subst (Whole k (leaf d ps ms) ys xs) (some_same (leaf_record d ps ms, ys) w (sym (leaf_first d ps ms ys xs p q e) ∙ h)) (
+      subst (Whole k (leaf d ps ms) ys xs) (same_Some (leaf_record d ps ms, ys) w (sym (leaf_first d ps ms ys xs p q e) ∙ h)) (
         record { tree_is = refl; rest_is = refl },
         sym (ap length e) ∙ simp length-append (omega arith),
       )
@@ -44,7 +45,7 @@ module _ (n r : ℕ) where
   whole_seen none (split a m s t) ys xs f e w h = absurd f
   whole_seen (suc k) (split a m s t) ys xs f e w h =
       let l : k ≡ suc k - 1 = omega arith in
-      subst (Whole (suc k) (split a m s t) ys xs) (some_same (split_record a m, (spelled s ++ spelled t) ++ ys) w (ap (first_record n r) e ∙ h)) (
+      subst (Whole (suc k) (split a m s t) ys xs) (same_Some (split_record a m, (spelled s ++ spelled t) ++ ys) w (ap (first_record n r) e ∙ h)) (
         record {
           first = s;
           second = t;
@@ -67,10 +68,10 @@ module _ (n r : ℕ) where
     always h = go k t f e
       where
         go : (k : ℕ) (t : Tree) → Fits k n r t → spelled t ++ ys ≡ xs → ⊥
-        go none (leaf d ps ms) f e = never (leaf_record d ps ms, ys) (h ∙ leaf_first d ps ms ys xs f.0 f.1 e)
-        go (suc k) (leaf d ps ms) f e = never (leaf_record d ps ms, ys) (h ∙ leaf_first d ps ms ys xs f.0 f.1 e)
+        go none (leaf d ps ms) f e = none-some (leaf_record d ps ms, ys) (h ∙ leaf_first d ps ms ys xs f.0 f.1 e)
+        go (suc k) (leaf d ps ms) f e = none-some (leaf_record d ps ms, ys) (h ∙ leaf_first d ps ms ys xs f.0 f.1 e)
         go none (split a m s t) f e = f
-        go (suc k) (split a m s t) f e = never (split_record a m, (spelled s ++ spelled t) ++ ys) (h ∙ sym (ap (first_record n r) e))
+        go (suc k) (split a m s t) f e = none-some (split_record a m, (spelled s ++ spelled t) ++ ys) (h ∙ sym (ap (first_record n r) e))
 
 -- the shape under a split
 pub under : (k n r : ℕ) {j m s : ℕ} → (m ≡ n) × (s ≡ r + 1) × (k ≡ suc j) → (t : Tree) → Fits (k - 1) n (r + 1) t → Fits j m s t

@@ -2,14 +2,9 @@
 use Rattle.std.proofs.Common.{◌≡◌, ℕ, zero, suc, ◌+◌, ◌*◌, ◌≤◌, Bool, true, false, cond, leb, List, [], ◌∷◌, ◌++◌, length, take, drop, ℤ, pos, negsuc, Some, None, Option, sym, refl, ap, ◌∙◌, subst, append_assoc, arith, length-append, length-drop}
 use Rattle.std.proofs.lemmas.List.{take-append-drop, drop-drop, length-take-le, take_at, drop_at}
 use Rattle.std.proofs.lemmas.Bool.{le-leb, leb-true, cond-true}
+use Rattle.std.proofs.lemmas.Option.{none-some, same_Some}
 use Rattle.certificate.specs.Reading.{leaf_after, first_record, and_then, joined, tree_from, read_tree}
 use Rattle.certificate.specs.Trees.{Tree, leaf, split, TreeRecord, leaf_record, spelled, Fits}
-
-pub never : {A B : Type 0} (x : A) → ◌≡◌ {A = Option A} None (Some x) → B
-never x e = absurd (let z : ◌≡◌ {A = ℕ} 0 1 = cc in omega arith)
-
-pub some_same : {A : Type 0} (a b : A) → ◌≡◌ {A = Option A} (Some a) (Some b) → a ≡ b
-some_same a b e = cc
 
 -- ---- what is spelled is read
 
@@ -34,7 +29,7 @@ complete (suc k) nodes rows (split e m s t) rest f =
 pub one_spelling : (k n r : ℕ) (s t : Tree) (xs : List ℤ) → Fits k n r s → Fits k n r t → spelled s ≡ xs → spelled t ≡ xs → s ≡ t
 one_spelling k n r s t xs f g p q =
     let same : spelled s ++ [] ≡ spelled t ++ [] = ap (λ ys. ys ++ []) (p ∙ sym q) in
-    ap (λ w. w.0) (some_same (s, []) (t, []) (sym (complete k n r s [] f) ∙ ap (read_tree k n r) same ∙ complete k n r t [] g))
+    ap (λ w. w.0) (same_Some (s, []) (t, []) (sym (complete k n r s [] f) ∙ ap (read_tree k n r) same ∙ complete k n r t [] g))
 
 -- ---- what is read is spelled
 
@@ -60,39 +55,39 @@ module _ (nodes rows : ℕ) (subtree : List ℤ → Option (Tree × List ℤ)) (
       Back P (pos 0 ∷ d ∷ xs) w
   from_leaf d xs w true e h =
       let long : 2 * nodes + 2 * rows ≤ length xs = leb-true _ _ e in
-      subst (Back P (pos 0 ∷ d ∷ xs)) (some_same (leaf d (take (2 * nodes) xs) (take (2 * rows) (drop (2 * nodes) xs)), drop (2 * nodes + 2 * rows) xs) w h) (
+      subst (Back P (pos 0 ∷ d ∷ xs)) (same_Some (leaf d (take (2 * nodes) xs) (take (2 * rows) (drop (2 * nodes) xs)), drop (2 * nodes + 2 * rows) xs) w h) (
         leaves d _ _ (length-take-le (2 * nodes) xs (omega arith)) (length-take-le (2 * rows) (drop (2 * nodes) xs) (simp length-drop (omega arith))),
         ap (λ ys. pos 0 ∷ d ∷ ys) (pieces (2 * nodes) (2 * rows) xs),
       )
-  from_leaf d xs w false e h = never w h
+  from_leaf d xs w false e h = absurd (none-some w h)
 
   from_second : (e m : ℤ) (xs : List ℤ) (w a : Tree × List ℤ) → Back Q xs a → (o : Option (Tree × List ℤ)) → subtree a.1 ≡ o →
       and_then o (λ b. Some (split e m a.0 b.0, b.1)) ≡ Some w → Back P (pos 1 ∷ e ∷ m ∷ xs) w
-  from_second e m xs w a first None q h = never w h
+  from_second e m xs w a first None q h = absurd (none-some w h)
   from_second e m xs w a first (Some b) q h =
       let second = each a.1 b q in
-      subst (Back P (pos 1 ∷ e ∷ m ∷ xs)) (some_same (split e m a.0 b.0, b.1) w h) (
+      subst (Back P (pos 1 ∷ e ∷ m ∷ xs)) (same_Some (split e m a.0 b.0, b.1) w h) (
         splits e m a.0 b.0 first.0 second.0,
         ap (λ ys. pos 1 ∷ e ∷ m ∷ ys) (append_assoc (spelled a.0) (spelled b.0) b.1 ∙ ap (λ ys. spelled a.0 ++ ys) second.1 ∙ first.1),
       )
 
   from_split : (e m : ℤ) (xs : List ℤ) (w : Tree × List ℤ) (o : Option (Tree × List ℤ)) → subtree xs ≡ o → and_then o (joined e m subtree) ≡ Some w →
       Back P (pos 1 ∷ e ∷ m ∷ xs) w
-  from_split e m xs w None q h = never w h
+  from_split e m xs w None q h = absurd (none-some w h)
   from_split e m xs w (Some a) q h = from_second e m xs w a (each xs a q) (subtree a.1) refl h
 
   from_record : (xs : List ℤ) (w : Tree × List ℤ) → and_then (first_record nodes rows xs) (λ p. tree_from subtree p.0 p.1) ≡ Some w → Back P xs w
-  from_record [] w h = never w h
-  from_record (pos zero ∷ []) w h = never w h
+  from_record [] w h = absurd (none-some w h)
+  from_record (pos zero ∷ []) w h = absurd (none-some w h)
   from_record (pos zero ∷ d ∷ xs) w h = from_leaf d xs w (leb (2 * nodes + 2 * rows) (length xs)) refl h
-  from_record (pos (suc zero) ∷ []) w h = never w h
-  from_record (pos (suc zero) ∷ e ∷ []) w h = never w h
+  from_record (pos (suc zero) ∷ []) w h = absurd (none-some w h)
+  from_record (pos (suc zero) ∷ e ∷ []) w h = absurd (none-some w h)
   from_record (pos (suc zero) ∷ e ∷ m ∷ xs) w h = from_split e m xs w (subtree xs) refl h
-  from_record (pos (suc (suc n)) ∷ xs) w h = never w h
-  from_record (negsuc n ∷ xs) w h = never w h
+  from_record (pos (suc (suc n)) ∷ xs) w h = absurd (none-some w h)
+  from_record (negsuc n ∷ xs) w h = absurd (none-some w h)
 
 pub sound : (splits nodes rows : ℕ) (xs : List ℤ) (w : Tree × List ℤ) → read_tree splits nodes rows xs ≡ Some w → Fits splits nodes rows w.0 × (spelled w.0 ++ w.1 ≡ xs)
 sound zero nodes rows xs w h =
-    from_record nodes rows (λ ys. None) (Fits zero nodes rows) (λ t. ⊥) (λ d ps ms p q. (p, q)) (λ e m s t f g. f) (λ ys v k. never v k) xs w h
+    from_record nodes rows (λ ys. None) (Fits zero nodes rows) (λ t. ⊥) (λ d ps ms p q. (p, q)) (λ e m s t f g. f) (λ ys v k. absurd (none-some v k)) xs w h
 sound (suc k) nodes rows xs w h =
     from_record nodes rows (read_tree k nodes (rows + 1)) (Fits (suc k) nodes rows) (Fits k nodes (rows + 1)) (λ d ps ms p q. (p, q)) (λ e m s t f g. (f, g)) (sound k nodes (rows + 1)) xs w h

@@ -1,14 +1,14 @@
 -- A tree whose leaves all pass bounds every run that keeps the rows.
-use Rattle.std.proofs.Common.{◌≡◌, ℕ, ◌<◌, ◌≤◌, Bool, T, leb, ◌⊎◌, List, [], ◌∷◌, ◌++◌, length, pos, nat_abs, sym, ◌∙◌, subst, subst₂, inl, inr, arith, leb→le}
+use Rattle.std.proofs.Common.{◌≡◌, ℕ, ◌<◌, ◌≤◌, Bool, T, List, [], ◌∷◌, ◌++◌, length, pos, nat_abs, sym, ◌∙◌, subst, subst₂, ⊎_elim, arith}
 use borrow.Author.Differences.{ints}
-use lib.Dec.{nleb→lt}
 use Rattle.std.specs.List.{AllByRecursion}
 use Rattle.std.proofs.ByRecursion.{All-push}
+use Rattle.std.proofs.lemmas.Bool.{cases_lt}
 use Rattle.price.specs.Laws.{Laws, cheaper}
 use Rattle.price.specs.Pairs.{Pair, zero, ◌⊕◌, ◌⊖◌, times}
 use Rattle.price.proofs.Orders.{le_refl, within_bound, no_bound}
 use Rattle.price.proofs.PairSums.{no_times}
-use Rattle.price.specs.Tests.{by_test, is_yes}
+use Rattle.price.specs.Tests.{is_yes}
 use Rattle.task.specs.Graph.{Path}
 use Rattle.task.specs.Places.{prices_along}
 use Rattle.task.specs.Rows.{KeepsAll}
@@ -31,10 +31,6 @@ all_front P (x ∷ xs) ys h = (h.0, all_front P xs ys h.1)
 all_behind : {X : Type 0} (P : X → Type 0) (xs ys : List X) → AllByRecursion P (xs ++ ys) → AllByRecursion P ys
 all_behind P [] ys h = h
 all_behind P (x ∷ xs) ys h = all_behind P xs ys h.1
-
--- each number of turns is at most m or above it
-sides : (n m : ℕ) → (n ≤ m) ⊎ (m < n)
-sides n m = elim (by_test (leb n m)) [ inl t ↦ inl (leb→le n m t) | inr t ↦ inr (nleb→lt n m t) ]
 
 module _ {le : Pair → Pair → Bool} {unit : Pair} (laws : Laws le unit) (task : Task) (c : Pair) (run : List ℕ) (path : Path task.edges task.start task.end run) where
   price : Pair
@@ -63,10 +59,10 @@ module _ {le : Pair → Pair → Bool} {unit : Pair} (laws : Laws le unit) (task
 
   -- a run turns the edge of a split at most m times or more often, and keeps that row
   by_side : {A : Type 0} (e m : ℕ) (lines : List Line) → AllByRecursion (Holds run) lines → (AllByRecursion (Holds run) (lines ++ (at_most e m ∷ [])) → A) → (AllByRecursion (Holds run) (lines ++ (at_least e m ∷ [])) → A) → A
-  by_side e m lines holds low high = elim (sides (turns e run) m) [
-    | inl h ↦ low (All-push (Holds run) lines (at_most e m) holds (at_most_holds e m run h))
-    | inr h ↦ high (All-push (Holds run) lines (at_least e m) holds (at_least_holds e m run h))
-  ]
+  by_side e m lines holds low high = ⊎_elim
+      (λ (above : m < turns e run). high (All-push (Holds run) lines (at_least e m) holds (at_least_holds e m run above)))
+      (λ (within : turns e run ≤ m). low (All-push (Holds run) lines (at_most e m) holds (at_most_holds e m run within)))
+      (cases_lt m (turns e run))
 
   tree_claim : (t : Tree) (lines : List Line) → Leaves t lines → AllByRecursion (Holds run) lines → T (le price c)
   tree_claim (leaf d ps ms) lines ok holds =

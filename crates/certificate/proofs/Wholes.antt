@@ -2,6 +2,7 @@
 use Rattle.std.proofs.Common.{◌≡◌, ℕ, ◌-◌, Bool, true, false, cond, eqb, List, [], length, ℤ, Some, None, Err, Option, sym, refl, ap, ◌∙◌, subst, arith}
 use Rattle.std.proofs.lemmas.List.{append-nil, nil_from_length}
 use Rattle.std.proofs.lemmas.Bool.{eqb-true, false≢true}
+use Rattle.std.proofs.lemmas.Option.{none-some, same_Some}
 use Rattle.price.specs.Pairs.{Pair}
 use Rattle.price.specs.declared.refusals.Refusal.TheVariants.{NotOneTree}
 use Rattle.task.specs.Sides.{node_count}
@@ -11,7 +12,7 @@ use Rattle.certificate.specs.Reading.{whole, read_tree}
 use Rattle.certificate.specs.Tasks.{Task}
 use Rattle.certificate.specs.Trees.{Tree, Fits, Spells, spelled}
 use Rattle.certificate.specs.Verdicts.{before, range_answer, tree_answer, found_answer, list_answer}
-use Rattle.certificate.proofs.Spellings.{never, some_same, sound, complete}
+use Rattle.certificate.proofs.Spellings.{sound, complete}
 
 -- the tree, where nothing is left
 whole_is : (o : Option (Tree × List ℤ)) → ends (rest_of o) ≡ true → (t : Tree) × (o ≡ Some (t, []))
@@ -19,15 +20,15 @@ whole_is None h = absurd (false≢true h)
 whole_is (Some p) h = let none : p.1 ≡ [] = nil_from_length p.1 (eqb-true _ _ h) in (p.0, λ i. Some (p.0, none i))
 
 pub whole_tree : (o : Option (Tree × List ℤ)) (t : Tree) → whole o ≡ Some t → o ≡ Some (t, [])
-whole_tree None t h = never t h
+whole_tree None t h = absurd (none-some t h)
 whole_tree (Some p) t h = go (eqb (length p.1) 0) refl h
   where
     go : (b : Bool) → eqb (length p.1) 0 ≡ b → cond b (Some p.0) None ≡ Some t → Some p ≡ Some (t, [])
     go true e k =
         let none : p.1 ≡ [] = nil_from_length p.1 (eqb-true _ _ e) in
-        let same : p.0 ≡ t = some_same p.0 t k in
+        let same : p.0 ≡ t = same_Some p.0 t k in
         λ i. Some (same i, none i)
-    go false e k = never t k
+    go false e k = absurd (none-some t k)
 
 pub no_whole : (o : Option (Tree × List ℤ)) → ends (rest_of o) ≡ false → whole o ≡ None
 no_whole None h = refl
