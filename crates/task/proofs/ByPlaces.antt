@@ -10,7 +10,8 @@ use Rattle.task.specs.Graph.{head_of, edge_at, Path, Run}
 use Rattle.task.specs.Turns.{turns_in, turns_by, block_turns, edge_price, price_of, run_price}
 use Rattle.task.specs.Rows.{Row, weigh, row_sum}
 use Rattle.task.specs.Places.{Exist, coefficients_along, prices_along, places_of}
-use Rattle.task.proofs.Linear.{spot, spot_here, spot_apart, Linear, Counts, by_places}
+use Rattle.task.proofs.Lowest.{one_if_same, one_if_other}
+use Rattle.task.proofs.Linear.{spot, Linear, Counts, by_places}
 
 -- ---- the edges of a run exist
 
@@ -95,14 +96,14 @@ weigh_add f g i (c ∷ cs) =
 weigh_before : (b i : ℕ) (cs : List ℤ) → b < i → weigh (spot b) i cs ≡ pos 0
 weigh_before b i [] h = refl
 weigh_before b i (c ∷ cs) h =
-    (λ j. c *ℤ pos (spot_apart b i (λ is. omega arith) j) +ℤ weigh (spot b) (suc i) cs) ∙ none_of c (weigh (spot b) (suc i) cs) ∙ weigh_before b (suc i) cs (omega arith)
+    (λ j. c *ℤ pos (one_if_other b i (λ is. omega arith) j) +ℤ weigh (spot b) (suc i) cs) ∙ none_of c (weigh (spot b) (suc i) cs) ∙ weigh_before b (suc i) cs (omega arith)
 
 weigh_from : (cs : List ℤ) (b i : ℕ) → weigh (spot (i + b)) i cs ≡ get_or cs b (pos 0)
 weigh_from [] b i = refl
 weigh_from (c ∷ cs) none i =
-    (λ j. c *ℤ pos (spot_here (i + 0) i (add-zero i) j) +ℤ weigh_before (i + 0) (suc i) cs (omega arith) j) ∙ one_of c
+    (λ j. c *ℤ pos (one_if_same (i + 0) i (add-zero i) j) +ℤ weigh_before (i + 0) (suc i) cs (omega arith) j) ∙ one_of c
 weigh_from (c ∷ cs) (suc b) i =
-    (λ j. c *ℤ pos (spot_apart (i + suc b) i (λ is. omega arith) j) +ℤ weigh (spot ((add-suc i b ∙ sym (suc-add i b)) j)) (suc i) cs)
+    (λ j. c *ℤ pos (one_if_other (i + suc b) i (λ is. omega arith) j) +ℤ weigh (spot ((add-suc i b ∙ sym (suc-add i b)) j)) (suc i) cs)
     ∙ none_of c (weigh (spot (suc i + b)) (suc i) cs) ∙ weigh_from cs b (suc i)
 
 pub weigh_spot : (b : ℕ) (cs : List ℤ) → weigh (spot b) 0 cs ≡ get_or cs b (pos 0)

@@ -1,20 +1,15 @@
 -- A sum over edges of what each gives for its turns is a sum over the places of the run.
-use Rattle.std.proofs.Common.{◌≡◌, ℕ, zero, suc, ◌+◌, ◌<◌, cond, eqb, ◌⊎◌, List, [], ◌∷◌, length, sym, ap, ◌∙◌, subst, inl, inr, le_of_suc-le-suc, not-suc-le-zero, add-zero, add-suc, suc-add, zero-add, arith}
+use Rattle.std.proofs.Common.{◌≡◌, ℕ, zero, suc, ◌+◌, ◌<◌, eqb, ◌⊎◌, List, [], ◌∷◌, length, sym, ap, ◌∙◌, subst, inl, inr, le_of_suc-le-suc, not-suc-le-zero, add-zero, add-suc, suc-add, zero-add, arith}
 use Rattle.std.specs.List.{AllByRecursion}
-use Rattle.std.proofs.lemmas.Bool.{eq-eqb, ne_eqb}
 use Rattle.task.specs.declared.edges.Edge.{Edge}
 use Rattle.task.specs.Graph.{no_edge, edge_at}
+use Rattle.task.specs.Lowest.{one_if}
 use Rattle.task.specs.Turns.{turns, turns_from, turns_in}
+use Rattle.task.proofs.Lowest.{one_if_same, one_if_other}
 
 -- 1 at x, and 0 elsewhere
 abbrev pub spot : ℕ → ℕ → ℕ
-spot x i = cond (eqb x i) 1 0
-
-pub spot_here : (x i : ℕ) → x ≡ i → spot x i ≡ 1
-spot_here x i e = ap (λ b. cond b 1 0) (eq-eqb x i e)
-
-pub spot_apart : (x i : ℕ) → (x ≡ i → ⊥) → spot x i ≡ 0
-spot_apart x i ne = ap (λ b. cond b 1 0) (ne_eqb x i ne)
+spot x i = one_if (eqb x i)
 
 -- `total` adds up, over the edges, what each gives for its turns
 pub record Linear {A : Type 0} (none : A) (add : A → A → A) (gives : Edge → ℕ → A) (total : List Edge → List ℕ → A) : Type 0 where
@@ -52,7 +47,7 @@ module _ {A : Type 0} {none : A} {add : A → A → A} {gives : Edge → ℕ →
   before x i [] h = laws.no_edges []
   before x i (e ∷ es) h =
       laws.one_more e es (spot x i) (spots x (suc i) es)
-      ∙ (λ j. add (gives e (spot_apart x i (λ is. omega arith) j)) (before x (suc i) es (omega arith) j))
+      ∙ (λ j. add (gives e (one_if_other x i (λ is. omega arith) j)) (before x (suc i) es (omega arith) j))
       ∙ ap (λ a. add a none) (laws.no_turns e) ∙ laws.none_add none
 
   -- the place x is an edge, or counts for nothing
@@ -64,10 +59,10 @@ module _ {A : Type 0} {none : A} {add : A → A → A} {gives : Edge → ℕ →
   at_edge [] y i (inr nothing) = laws.no_edges [] ∙ sym nothing
   at_edge (e ∷ es) zero i counts =
       laws.one_more e es (spot (i + 0) i) (spots (i + 0) (suc i) es)
-      ∙ (λ j. add (gives e (spot_here (i + 0) i (add-zero i) j)) (before (i + 0) (suc i) es (omega arith) j)) ∙ laws.add_none (gives e 1)
+      ∙ (λ j. add (gives e (one_if_same (i + 0) i (add-zero i) j)) (before (i + 0) (suc i) es (omega arith) j)) ∙ laws.add_none (gives e 1)
   at_edge (e ∷ es) (suc y) i counts =
       laws.one_more e es (spot (i + suc y) i) (spots (i + suc y) (suc i) es)
-      ∙ (λ j. add (gives e (spot_apart (i + suc y) i (λ is. omega arith) j)) (total es (spots ((add-suc i y ∙ sym (suc-add i y)) j) (suc i) es)))
+      ∙ (λ j. add (gives e (one_if_other (i + suc y) i (λ is. omega arith) j)) (total es (spots ((add-suc i y ∙ sym (suc-add i y)) j) (suc i) es)))
       ∙ (λ j. add (laws.no_turns e j) (at_edge es y (suc i) (fewer counts) j)) ∙ laws.none_add (gives (edge_at es y) 1)
     where
       fewer : Counts (e ∷ es) (suc y) → Counts es y

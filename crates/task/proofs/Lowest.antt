@@ -1,7 +1,14 @@
 -- The lowest number that passes a test, and how many pass.
-use Rattle.std.proofs.Common.{◌≡◌, ℕ, zero, suc, ◌+◌, ◌<◌, ◌≤◌, Bool, true, false, cond, ◌⊎◌, refl, inl, inr, ⊎_elim, le_of_suc-le-suc, not-suc-le-zero, arith}
-use Rattle.std.proofs.lemmas.Bool.{both_ways, cases_lt}
+use Rattle.std.proofs.Common.{◌≡◌, ℕ, zero, suc, ◌+◌, ◌<◌, ◌≤◌, Bool, true, false, cond, eqb, ◌⊎◌, refl, ap, inl, inr, ⊎_elim, le_of_suc-le-suc, not-suc-le-zero, arith}
+use Rattle.std.proofs.lemmas.Bool.{both_ways, cases_lt, eq-eqb, ne_eqb}
 use Rattle.task.specs.Lowest.{lowest, one_if}
+
+-- 1 at the same number, 0 at another
+pub one_if_same : (a b : ℕ) → a ≡ b → one_if (eqb a b) ≡ 1
+one_if_same a b e = ap one_if (eq-eqb a b e)
+
+pub one_if_other : (a b : ℕ) → (a ≡ b → ⊥) → one_if (eqb a b) ≡ 0
+one_if_other a b ne = ap one_if (ne_eqb a b ne)
 
 pub lowest_passes : (p : ℕ → Bool) (n : ℕ) → lowest p n < n → p (lowest p n) ≡ true
 lowest_passes p zero h = absurd (not-suc-le-zero h)

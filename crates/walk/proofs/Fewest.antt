@@ -1,19 +1,18 @@
 -- The distance is the fewest claimed edges to the end, the last exit the lowest edge to a node one nearer, and the rule takes what it says.
 use Rattle.std.proofs.Common.{◌≡◌, ℕ, zero, suc, ◌+◌, ◌<◌, ◌≤◌, Bool, true, eqb, ltb, ◌⊎◌, ◌↔◌, List, [], ◌∷◌, length, get_or, Some, sym, ap, ◌∙◌, subst, inl, inr, ⊎_elim, arith}
 use Rattle.std.proofs.lemmas.Bool.{eqb-true, eq-eqb, lt-ltb, and_from, both_ways, cases_lt, cases_eq}
+use Rattle.std.proofs.lemmas.Option.{same_Some}
 use Rattle.task.specs.declared.edges.Edge.{Edge}
 use Rattle.task.specs.Graph.{tail_of, head_of}
 use Rattle.task.specs.Lowest.{one_if}
 use Rattle.task.specs.Sound.{leaving, Reaches, Claim}
-use Rattle.task.proofs.Lowest.{lowest_passes, lowest_misses, lowest_le}
+use Rattle.task.proofs.Lowest.{lowest_passes, lowest_misses, lowest_le, one_if_same, one_if_other}
 use Rattle.task.proofs.Reach as ways
 use Rattle.walk.specs.Fewest.{Lowest, Fewest, Nearer, LastExit, Spare, Takes, FewestStands}
 use Rattle.walk.specs.Rule.{spares, first_beside, beside, has_turns, hops, near, distance, leads_nearer, last_exit, next}
 use Rattle.walk.proofs.Reach.{Hop, hop_from, hop_leaves, hop_held, path_near, distance_le, distance_near, exit_near}
 use Rattle.walk.proofs.Rule.{beside_spare, beside_last, spares_leaves, spares_held, is_next}
-use Rattle.walk.proofs.Steps.{one_if_same, one_if_other}
 use Rattle.walk.proofs.TurnSums.{by_some}
-use Rattle.walk.proofs.Whole.{some_same}
 
 -- there is only one lowest
 only_lowest : (P : ℕ → Type 0) (x y : ℕ) → Lowest P x → Lowest P y → x ≡ y
@@ -58,16 +57,16 @@ module _ (es : List Edge) (claimed : List ℕ) (end : ℕ) where
   -- ---- the edge with a turn to spare
 
   module _ (left : List ℕ) (v last : ℕ) where
-    spare_so : (x : ℕ) → x < length es → spares es left v last x ≡ true → Spare es left v last x
-    spare_so x low t = record {
+    is_spare : (x : ℕ) → x < length es → spares es left v last x ≡ true → Spare es left v last x
+    is_spare x low t = record {
       edge = low;
       leaves = spares_leaves es left v last x t;
       held = omega (arith, spares_held es left v last x t);
       aside = λ e. omega (arith, spares_held es left v last x t, one_if_same x last e);
     }
 
-    so_spares : (x : ℕ) → Spare es left v last x → spares es left v last x ≡ true
-    so_spares x s = and_from (eqb (tail_of es x) v) (ltb (one_if (eqb x last)) (get_or left x 0)) (eq-eqb (tail_of es x) v s.leaves)
+    spare_passes : (x : ℕ) → Spare es left v last x → spares es left v last x ≡ true
+    spare_passes x s = and_from (eqb (tail_of es x) v) (ltb (one_if (eqb x last)) (get_or left x 0)) (eq-eqb (tail_of es x) v s.leaves)
         (lt-ltb (one_if (eqb x last)) (get_or left x 0) (⊎_elim
         (λ (e : x ≡ last). omega (arith, s.aside e, one_if_same x last e))
         (λ (ne : x ≡ last → ⊥). omega (arith, s.held, one_if_other x last ne))
@@ -76,10 +75,10 @@ module _ (es : List Edge) (claimed : List ℕ) (end : ℕ) where
     takes_beside : Lowest (Spare es left v last) (beside es left v last) ⊎ ((beside es left v last ≡ last) × ((y : ℕ) → Spare es left v last y → ⊥))
     takes_beside = ⊎_elim
         (λ (low : x < length es). inl (subst (Lowest (Spare es left v last)) (sym (beside_spare es left v last low)) (record {
-          is = spare_so x low (lowest_passes test (length es) low);
-          lowest = λ y h s. both_ways (test y) (lowest_misses test (length es) y h) (so_spares y s);
+          is = is_spare x low (lowest_passes test (length es) low);
+          lowest = λ y h s. both_ways (test y) (lowest_misses test (length es) y h) (spare_passes y s);
         })))
-        (λ (high : length es ≤ x). inr (beside_last es left v last high, λ y s. omega (arith, high, s.edge, lowest_le test (length es) y (so_spares y s))))
+        (λ (high : length es ≤ x). inr (beside_last es left v last high, λ y s. omega (arith, high, s.edge, lowest_le test (length es) y (spare_passes y s))))
         (cases_lt x (length es))
       where
         test : ℕ → Bool
@@ -138,7 +137,7 @@ module _ (es : List Edge) (claimed : List ℕ) (end : ℕ) where
 
       steps : (x : ℕ) → (next es claimed end left v ≡ Some x) ↔ Takes es claimed end left v x
       steps x = (
-        λ e. subst (Takes es claimed end left v) (some_same (beside es left v (last_exit es claimed end v)) x (sym (is_next es claimed end left v off_end) ∙ e)) takes,
+        λ e. subst (Takes es claimed end left v) (same_Some (beside es left v (last_exit es claimed end v)) x (sym (is_next es claimed end left v off_end) ∙ e)) takes,
         λ t. is_next es claimed end left v off_end ∙ ap Some (only_takes (beside es left v (last_exit es claimed end v)) x takes t),
       )
 

@@ -15,7 +15,6 @@ use Rattle.walk.proofs.Reach.{hop_leaves, near_end, near_on}
 -- ---- one pass, from the last edge to the first
 
 module _ (es : List Edge) (ts before after : List ℕ) (settled : Bool) (n x : ℕ) (pass : Pass es ts before after settled n) where
-
   module _ (low : x < length es) (on : has_turns ts x ≡ true) (small : tail_of es x < length after) (small' : head_of es x < length after)
       (less : get_or after (head_of es x) 0 + 1 < get_or after (tail_of es x) 0) where
     lowered : List ℕ

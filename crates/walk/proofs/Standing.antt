@@ -1,6 +1,7 @@
 -- One step of a walk that stands somewhere.
 use Rattle.std.proofs.Common.{◌≡◌, ℕ, ◌<◌, List, [], ◌∷◌, ◌++◌, Some, None, Option, sym, refl, ap, ◌∙◌, subst, ⊎_elim}
 use Rattle.std.proofs.lemmas.Bool.{cases_eq}
+use Rattle.std.proofs.lemmas.Option.{none-some, same_Some}
 use Rattle.task.specs.declared.edges.Edge.{Edge}
 use Rattle.task.specs.Graph.{head_of}
 use Rattle.task.specs.Sound.{leaving, Claim}
@@ -10,8 +11,8 @@ use Rattle.walk.specs.Walks.{one_less, Chooser, at_after, left_after, Chosen, Fo
 use Rattle.walk.proofs.Fewest.{fewest_stands}
 use Rattle.walk.proofs.Reach.{last_exits}
 use Rattle.walk.proofs.Rule.{next_lawful}
-use Rattle.walk.proofs.Steps.{Exits, Inv, claimed_too, can_leave, exit_edge, exit_leaves, exit_held, held}
-use Rattle.walk.proofs.Whole.{begins, followed, some_same, none_some}
+use Rattle.walk.proofs.Steps.{Exits, Inv, claimed_too, can_leave, held}
+use Rattle.walk.proofs.Whole.{begins, followed, goes_on}
 
 -- ---- one edge more
 
@@ -44,11 +45,7 @@ module _ (es : List Edge) (start end : ℕ) (claimed : List ℕ) (claim : Claim 
 
   module _ (off : at ≡ end → ⊥) where
     goes : (x : ℕ) × (next es claimed end left at ≡ Some x) × Chosen es (last_exit es claimed end) left at x
-    goes = (next_lawful es claimed end).goes left at off
-        (can_leave es end claimed (distance es claimed end) (last_exit es claimed end) exits left at inv off)
-        (exit_held es end claimed (distance es claimed end) (last_exit es claimed end) exits left at inv off)
-        (exit_edge es end claimed (distance es claimed end) (last_exit es claimed end) exits left at inv off)
-        (exit_leaves es end claimed (distance es claimed end) (last_exit es claimed end) exits left at inv off)
+    goes = goes_on es end claimed (distance es claimed end) (last_exit es claimed end) exits claim.no_way_on (next es claimed end) (next_lawful es claimed end) left at inv off
 
     leaves : 0 < leaving es claimed at
     leaves = claimed_too es end claimed (distance es claimed end) (last_exit es claimed end) exits left at inv at
@@ -56,7 +53,7 @@ module _ (es : List Edge) (start end : ℕ) (claimed : List ℕ) (claim : Claim 
 
     onward : (x : ℕ) → next es claimed end left at ≡ Some x → OneMore es start end claimed handed left at x
     onward x is =
-        let chosen : Chosen es (last_exit es claimed end) left at x = subst (Chosen es (last_exit es claimed end) left at) (some_same goes.0 x (sym goes.1 ∙ is)) goes.2 in
+        let chosen : Chosen es (last_exit es claimed end) left at x = subst (Chosen es (last_exit es claimed end) left at) (same_Some goes.0 x (sym goes.1 ∙ is)) goes.2 in
         record {
           off = off;
           named = ((fewest_stands es start end claimed claim).steps left at x leaves).0 is;
@@ -73,8 +70,8 @@ module _ (es : List Edge) (start end : ℕ) (claimed : List ℕ) (claim : Claim 
         }
 
   pub stepped : (r : Option ℕ) → r ≡ next es claimed end left at → Stepped es start end claimed handed left at r
-  stepped None is = ⊎_elim (λ (e : at ≡ end). e) (λ (off : at ≡ end → ⊥). absurd (none_some (goes off).0 (is ∙ (goes off).1))) (cases_eq at end)
+  stepped None is = ⊎_elim (λ (e : at ≡ end). e) (λ (off : at ≡ end → ⊥). absurd (none-some (goes off).0 (is ∙ (goes off).1))) (cases_eq at end)
   stepped (Some x) is = ⊎_elim
-      (λ (e : at ≡ end). absurd (none_some x (sym ((next_lawful es claimed end).stops left) ∙ subst (λ u. next es claimed end left u ≡ Some x) e (sym is))))
+      (λ (e : at ≡ end). absurd (none-some x (sym ((next_lawful es claimed end).stops left) ∙ subst (λ u. next es claimed end left u ≡ Some x) e (sym is))))
       (λ (off : at ≡ end → ⊥). onward off x (sym is))
       (cases_eq at end)

@@ -1,22 +1,14 @@
 -- The invariant of a walk: what is left is balanced from where it stands, and the exit of a node keeps its turn to the last.
---
 use Rattle.std.proofs.Common.{◌≡◌, ℕ, zero, suc, ◌+◌, ◌-◌, ◌<◌, ◌≤◌, eqb, List, [], ◌∷◌, length, get_or, sum, sym, refl, ap, ◌∙◌, subst, ⊎_elim, not-suc-le-zero, arith, length-set}
 use Rattle.std.proofs.lemmas.List.{get_or-set_other}
-use Rattle.std.proofs.lemmas.Bool.{eqb-true, eq-eqb, ne_eqb, cases_eq}
+use Rattle.std.proofs.lemmas.Bool.{eqb-true, eq-eqb, cases_eq}
 use Rattle.task.specs.declared.edges.Edge.{Edge}
 use Rattle.task.specs.Graph.{tail_of, head_of}
 use Rattle.task.specs.Lowest.{one_if}
 use Rattle.task.specs.Sound.{leaving, entering}
-use Rattle.walk.specs.Walks.{one_less}
-use Rattle.walk.specs.Walks.{spare, Chosen}
+use Rattle.task.proofs.Lowest.{one_if_same, one_if_other}
+use Rattle.walk.specs.Walks.{one_less, spare, Chosen}
 use Rattle.walk.proofs.TurnSums.{by_one_less, by_some, by_at, sum_some}
-
--- 1 at the same number, 0 at another
-pub one_if_same : (a b : ℕ) → a ≡ b → one_if (eqb a b) ≡ 1
-one_if_same a b e = ap one_if (eq-eqb a b e)
-
-pub one_if_other : (a b : ℕ) → (a ≡ b → ⊥) → one_if (eqb a b) ≡ 0
-one_if_other a b ne = ap one_if (ne_eqb a b ne)
 
 one_if_sym : (a b : ℕ) → one_if (eqb a b) ≡ one_if (eqb b a)
 one_if_sym a b = ⊎_elim (λ e. one_if_same a b e ∙ sym (one_if_same b a (sym e))) (λ ne. one_if_other a b ne ∙ sym (one_if_other b a (λ e. ne (sym e)))) (cases_eq a b)

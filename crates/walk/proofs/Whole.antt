@@ -2,16 +2,18 @@
 use Rattle.std.proofs.Common.{◌≡◌, ℕ, zero, suc, ◌+◌, ◌<◌, ◌≤◌, eqb, List, [], ◌∷◌, ◌++◌, length, get_or, take, Some, None, sum, Option, sym, refl, ap, ◌∙◌, subst, ⊎_elim, le_of_suc-le-suc, not-suc-le-zero, arith, length-append}
 use Rattle.std.proofs.lemmas.List.Sums.{get_or-le-sum_by}
 use Rattle.std.proofs.lemmas.Bool.{cases_eq}
+use Rattle.std.proofs.lemmas.Option.{none-some, same_Some}
 use Rattle.task.specs.declared.edges.Edge.{Edge}
 use Rattle.task.specs.Graph.{tail_of, head_of, Path}
 use Rattle.task.specs.Lowest.{one_if}
 use Rattle.task.specs.Sealing.{Ends}
 use Rattle.task.specs.Sound.{Claim}
 use Rattle.task.specs.Turns.{turns}
+use Rattle.task.proofs.Lowest.{one_if_same, one_if_other}
 use Rattle.task.proofs.Seals.{path_append}
 use Rattle.walk.specs.Walks.{one_less, Chooser, then_on, walk, at_after, left_after, Held, Chosen, Lawful, Sofar, Complete, Follows, Begun}
 use Rattle.walk.proofs.TurnSums.{by_some, sum_one_less, turns_append, turns_each}
-use Rattle.walk.proofs.Steps.{Exits, Inv, can_leave, exit_edge, exit_leaves, exit_held, held, stepped, none_left, same_one_less, other_one_less, one_if_same, one_if_other}
+use Rattle.walk.proofs.Steps.{Exits, Inv, can_leave, exit_edge, exit_leaves, exit_held, held, stepped, none_left, same_one_less, other_one_less}
 
 -- ---- of any choice
 
@@ -46,19 +48,6 @@ module _ (es : List Edge) (end : ℕ) (choose : Chooser) (stops : (left : List �
       go None ih q = refl
       go (Some x) ih q = ap (λ xs. x ∷ xs) (ih x q)
 
--- `Some` is one-to-one, and never `None`
-chosen_or : ℕ → Option ℕ → ℕ
-chosen_or d None = d
-chosen_or d (Some x) = x
-
-pub some_same : (x y : ℕ) → Some x ≡ Some y → x ≡ y
-unfolding chosen_or
-some_same x y e = ap (chosen_or 0) e
-
-pub none_some : (x : ℕ) → ◌≡◌ {A = Option ℕ} None (Some x) → ⊥
-unfolding chosen_or
-none_some x e = omega (arith, ap (chosen_or (suc x)) e)
-
 -- ---- of a lawful choice
 
 -- what holds after the edges xs
@@ -81,6 +70,12 @@ module _ (es : List Edge) (end : ℕ) (claimed : List ℕ) (rank exit : ℕ → 
   -- at the end none is
   nothing_left : (left : List ℕ) (at : ℕ) → Inv es end claimed exit left at → at ≡ end → sum left ≡ 0
   nothing_left left at inv e = none_left es end claimed rank exit exits no_way_on left (subst (Inv es end claimed exit left) e inv)
+
+  -- off the end the choice answers an edge
+  pub goes_on : (left : List ℕ) (at : ℕ) → Inv es end claimed exit left at → (at ≡ end → ⊥) → (x : ℕ) × (choose left at ≡ Some x) × Chosen es exit left at x
+  goes_on left at inv off =
+      lawful.goes left at off (can_leave es end claimed rank exit exits left at inv off) (exit_held es end claimed rank exit exits left at inv off)
+      (exit_edge es end claimed rank exit exits left at inv off) (exit_leaves es end claimed rank exit exits left at inv off)
 
   module _ (left : List ℕ) (at : ℕ) (inv : Inv es end claimed exit left at) (off : at ≡ end → ⊥) (x : ℕ) (chosen : Chosen es exit left at x) where
     has : 0 < get_or left x 0
@@ -110,8 +105,7 @@ module _ (es : List Edge) (end : ℕ) (claimed : List ℕ) (rank exit : ℕ → 
       off e = omega (arith, h, nothing_left left at inv e)
 
       goes : (x : ℕ) × (choose left at ≡ Some x) × Chosen es exit left at x
-      goes = lawful.goes left at off (can_leave es end claimed rank exit exits left at inv off) (exit_held es end claimed rank exit exits left at inv off)
-          (exit_edge es end claimed rank exit exits left at inv off) (exit_leaves es end claimed rank exit exits left at inv off)
+      goes = goes_on left at inv off
 
       rest : ℕ → List ℕ
       rest x = walk es choose k (one_less left x) (head_of es x)
@@ -132,36 +126,35 @@ module _ (es : List Edge) (end : ℕ) (claimed : List ℕ) (rank exit : ℕ → 
   followed (x ∷ xs) left at inv f = went_on left at inv off x chosen (length xs) xs (followed xs (one_less left x) (head_of es x) (stepped es end claimed rank exit exits left at inv off x chosen) f.1)
     where
       off : at ≡ end → ⊥
-      off e = none_some x (sym (lawful.stops left) ∙ subst (λ u. choose left u ≡ Some x) e f.0)
+      off e = none-some x (sym (lawful.stops left) ∙ subst (λ u. choose left u ≡ Some x) e f.0)
 
       goes : (y : ℕ) × (choose left at ≡ Some y) × Chosen es exit left at y
-      goes = lawful.goes left at off (can_leave es end claimed rank exit exits left at inv off) (exit_held es end claimed rank exit exits left at inv off)
-          (exit_edge es end claimed rank exit exits left at inv off) (exit_leaves es end claimed rank exit exits left at inv off)
+      goes = goes_on left at inv off
 
       chosen : Chosen es exit left at x
-      chosen = subst (Chosen es exit left at) (some_same goes.0 x (sym goes.1 ∙ f.0)) goes.2
+      chosen = subst (Chosen es exit left at) (same_Some goes.0 x (sym goes.1 ∙ f.0)) goes.2
 
   module _ (start : ℕ) (claim : Claim es start end claimed) where
     pub begins : Inv es end claimed exit claimed start
     begins = record { sized = claim.sized; claims = λ x. omega arith; balanced = claim.balanced; kept = λ v h. exits.held v h }
 
     module _ (k : ℕ) (low : k ≤ sum claimed) where
-      so : Went es end claimed exit claimed start k (walk es choose k claimed start)
-      so = went k claimed start begins low
+      walked : Went es end claimed exit claimed start k (walk es choose k claimed start)
+      walked = went k claimed start begins low
 
       arrives : k ≡ sum claimed → at_after es start (walk es choose k claimed start) ≡ end
       arrives e = ⊎_elim (λ (h : at_after es start (walk es choose k claimed start) ≡ end). h)
           (λ (off : at_after es start (walk es choose k claimed start) ≡ end → ⊥).
-          absurd (omega (arith, e, so.sums, some_left (left_after claimed (walk es choose k claimed start)) (at_after es start (walk es choose k claimed start)) so.inv off)))
+          absurd (omega (arith, e, walked.sums, some_left (left_after claimed (walk es choose k claimed start)) (at_after es start (walk es choose k claimed start)) walked.inv off)))
           (cases_eq (at_after es start (walk es choose k claimed start)) end)
 
       sofar : Sofar es end claimed (walk es choose (sum claimed) claimed start) start k (walk es choose k claimed start)
       sofar = record {
         begins = walk_take es choose k (sum claimed) claimed start low;
-        counted = so.counted;
-        left = so.sums;
+        counted = walked.counted;
+        left = walked.sums;
         done = (
-          λ e. omega (arith, so.sums, nothing_left (left_after claimed (walk es choose k claimed start)) (at_after es start (walk es choose k claimed start)) so.inv e),
+          λ e. omega (arith, walked.sums, nothing_left (left_after claimed (walk es choose k claimed start)) (at_after es start (walk es choose k claimed start)) walked.inv e),
           arrives,
         );
       }
@@ -190,7 +183,7 @@ module _ (es : List Edge) (end : ℕ) (claimed : List ℕ) (rank exit : ℕ → 
           run = walk es choose (sum claimed) claimed start
 
           w : Went es end claimed exit claimed start (sum claimed) run
-          w = so (sum claimed) all
+          w = walked (sum claimed) all
 
           there : at_after es start run ≡ end
           there = arrives (sum claimed) all refl
