@@ -14,6 +14,7 @@ use Rattle.task.specs.Places.{prices_along}
 use Rattle.task.specs.Rows.{KeepsAll}
 use Rattle.task.specs.Turns.{turns}
 use Rattle.task.proofs.ByPlaces.{prices_by_places}
+use Rattle.task.proofs.Joined.{all_front, all_behind}
 use Rattle.certificate.specs.Judged.{InRange, Passes}
 use Rattle.certificate.specs.Lines.{Line, Leaf, leaf_of, leaves, case_lines, at_most, at_least, charge, potential, bound}
 use Rattle.certificate.specs.RangeTests.{inside, tests}
@@ -23,14 +24,6 @@ use Rattle.certificate.specs.Trees.{Tree, leaf, split}
 use Rattle.certificate.proofs.Bounds.{limited}
 use Rattle.certificate.proofs.Limits.{Holds, rows_hold, at_most_holds, at_least_holds, all_rows}
 use Rattle.certificate.proofs.Walks.{places, walk}
-
-all_front : {X : Type 0} (P : X → Type 0) (xs ys : List X) → AllByRecursion P (xs ++ ys) → AllByRecursion P xs
-all_front P [] ys h = tt
-all_front P (x ∷ xs) ys h = (h.0, all_front P xs ys h.1)
-
-all_behind : {X : Type 0} (P : X → Type 0) (xs ys : List X) → AllByRecursion P (xs ++ ys) → AllByRecursion P ys
-all_behind P [] ys h = h
-all_behind P (x ∷ xs) ys h = all_behind P xs ys h.1
 
 module _ {le : Pair → Pair → Bool} {unit : Pair} (laws : Laws le unit) (task : Task) (c : Pair) (run : List ℕ) (path : Path task.edges task.start task.end run) where
   price : Pair

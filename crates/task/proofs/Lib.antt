@@ -1,4 +1,5 @@
 pub mod Lowest
+pub mod Joined
 pub mod Only
 pub mod Reach
 pub mod Spreads
