@@ -12,7 +12,7 @@ use Rattle.walk.proofs.Fewest.{fewest_stands}
 use Rattle.walk.proofs.Reach.{last_exits}
 use Rattle.walk.proofs.Rule.{next_lawful}
 use Rattle.walk.proofs.Steps.{Exits, Inv, claimed_too, can_leave, held}
-use Rattle.walk.proofs.Whole.{begins, followed, goes_on}
+use Rattle.walk.proofs.Whole.{begins, followed, some_chosen}
 
 -- ---- one edge more
 
@@ -45,7 +45,7 @@ module _ (es : List Edge) (start end : ℕ) (claimed : List ℕ) (claim : Claim 
 
   module _ (off : at ≡ end → ⊥) where
     goes : (x : ℕ) × (next es claimed end left at ≡ Some x) × Chosen es (last_exit es claimed end) left at x
-    goes = goes_on es end claimed (distance es claimed end) (last_exit es claimed end) exits claim.no_way_on (next es claimed end) (next_lawful es claimed end) left at inv off
+    goes = some_chosen es end claimed (distance es claimed end) (last_exit es claimed end) exits claim.no_way_on (next es claimed end) (next_lawful es claimed end) left at inv off
 
     leaves : 0 < leaving es claimed at
     leaves = claimed_too es end claimed (distance es claimed end) (last_exit es claimed end) exits left at inv at

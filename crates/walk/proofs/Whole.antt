@@ -72,8 +72,8 @@ module _ (es : List Edge) (end : ℕ) (claimed : List ℕ) (rank exit : ℕ → 
   nothing_left left at inv e = none_left es end claimed rank exit exits no_way_on left (subst (Inv es end claimed exit left) e inv)
 
   -- off the end the choice answers an edge
-  pub goes_on : (left : List ℕ) (at : ℕ) → Inv es end claimed exit left at → (at ≡ end → ⊥) → (x : ℕ) × (choose left at ≡ Some x) × Chosen es exit left at x
-  goes_on left at inv off =
+  pub some_chosen : (left : List ℕ) (at : ℕ) → Inv es end claimed exit left at → (at ≡ end → ⊥) → (x : ℕ) × (choose left at ≡ Some x) × Chosen es exit left at x
+  some_chosen left at inv off =
       lawful.goes left at off (can_leave es end claimed rank exit exits left at inv off) (exit_held es end claimed rank exit exits left at inv off)
       (exit_edge es end claimed rank exit exits left at inv off) (exit_leaves es end claimed rank exit exits left at inv off)
 
@@ -105,7 +105,7 @@ module _ (es : List Edge) (end : ℕ) (claimed : List ℕ) (rank exit : ℕ → 
       off e = omega (arith, h, nothing_left left at inv e)
 
       goes : (x : ℕ) × (choose left at ≡ Some x) × Chosen es exit left at x
-      goes = goes_on left at inv off
+      goes = some_chosen left at inv off
 
       rest : ℕ → List ℕ
       rest x = walk es choose k (one_less left x) (head_of es x)
@@ -129,7 +129,7 @@ module _ (es : List Edge) (end : ℕ) (claimed : List ℕ) (rank exit : ℕ → 
       off e = none-some x (sym (lawful.stops left) ∙ subst (λ u. choose left u ≡ Some x) e f.0)
 
       goes : (y : ℕ) × (choose left at ≡ Some y) × Chosen es exit left at y
-      goes = goes_on left at inv off
+      goes = some_chosen left at inv off
 
       chosen : Chosen es exit left at x
       chosen = subst (Chosen es exit left at) (same_Some goes.0 x (sym goes.1 ∙ f.0)) goes.2
