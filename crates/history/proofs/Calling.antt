@@ -1,5 +1,5 @@
 -- Every call keeps what a case holds by its history.
-use Rattle.std.proofs.Common.{◌≡◌, ℕ, Bool, ◌⊎◌, List, [], ◌∷◌, ◌++◌, ℤ, Some, None, Ok, Err, Option, Result, sym, refl, ap, ◌∙◌, subst, ap₂, inl, inr, append-nil, arith}
+use Rattle.std.proofs.Common.{◌≡◌, ℕ, Bool, ◌⊎◌, List, [], ◌∷◌, ◌++◌, ℤ, Some, None, Ok, Err, Option, Result, sym, refl, ap, ◌∙◌, subst, ap₂, inl, inr, append-nil}
 use Rattle.std.specs.List.{AllByRecursion}
 use Rattle.std.proofs.ByRecursion.{All-append}
 use Rattle.price.specs.Laws.{Laws}
@@ -15,17 +15,17 @@ use Rattle.history.specs.Answers.{numbered, ended, priced, unless_refused, stepp
 use Rattle.history.specs.Calls.{Request, edge, row, seal, claim, void, step, withdraw, told}
 use Rattle.judge.specs.Cases.{Contents}
 use Rattle.judge.specs.Claiming.{claim_answer, claim_kept, void_answer, void_kept, walk_from}
-use Rattle.judge.specs.Drafting.{taken, edge_answer, edge_kept, row_answer, row_kept, seal_answer, seal_kept}
+use Rattle.judge.specs.Drafting.{if_made, edge_answer, edge_kept, row_answer, row_kept, seal_answer, seal_kept}
 use Rattle.judge.specs.Handing.{next_of, walk_on, step_answer, step_kept, told_answer, withdraw_answer, withdraw_kept}
 use Rattle.history.specs.History.{Event, History, ◌gives◌, with_call}
-use Rattle.history.specs.Known.{edge_by, Claimed, VoidClaimed, Withdrawal, Since, Certified, Void, claimed_turns, certified_price, handed_out, steps, edges_of, rows_of}
+use Rattle.history.specs.Known.{edge_by, Claimed, VoidClaimed, Withdrawal, Certified, Void, claimed_turns, certified_price, handed_out, steps, edges_of, rows_of}
 use Rattle.history.specs.Performing.{answered, after}
 use Rattle.history.specs.Reaching.{Reached, start, one_more}
 use Rattle.judge.specs.Stages.{Stage, Walk, draft, sealed, certified, void as voided}
-use Rattle.judge.proofs.Accepts.{between, void_between}
-use Rattle.history.proofs.Lately.{nil_is_no_cons, Earlier, was, lately, still, none_new, none_left, edges_more, rows_more}
+use Rattle.judge.proofs.Accepts.{passed_between, void_between}
+use Rattle.history.proofs.Lately.{none_at_first, Earlier, was, lately, still, none_new, none_left, edges_more, rows_more}
 use Rattle.history.proofs.Meaning.{Low, Holds, ByStage, Meaning, quiet_call, quiet_refused, steps_more, stays, moved, unmoved}
-use Rattle.history.proofs.NewParts.{never, new_edge, new_row}
+use Rattle.history.proofs.NewParts.{new_edge, new_row}
 use Rattle.history.proofs.Stepping.{holds_first, holds_next}
 
 module _ (le : Pair → Pair → Bool) (unit : Pair) (laws : Laws le unit) (h : History) where
@@ -45,7 +45,7 @@ module _ (le : Pair → Pair → Bool) (unit : Pair) (laws : Laws le unit) (h : 
         edges = edges_more h (q gives number n) ∙ ap₂ (λ l r. l ++ r) m.edges (sym own.made);
         rows = rows_more h (q gives number n) ∙ append-nil (rows_of h) ∙ m.rows;
         low = subst (λ l. AllByRecursion Low (c.edges ++ l)) (sym own.made) (All-append Low c.edges (edge_by q) m.low (own.low, tt));
-        stage = subst (ByStage le (with_call h q (number n)) (c.edges ++ taken (edge_made tail head block cycles reads)) c.rows) (sym own.drafted)
+        stage = subst (ByStage le (with_call h q (number n)) (c.edges ++ if_made (edge_made tail head block cycles reads)) c.rows) (sym own.drafted)
             (stays h (q gives number n) le (quiet_call q (number n) refl refl) c.edges c.rows draft (subst (ByStage le h c.edges c.rows) own.drafted m.stage));
       }
 
@@ -59,7 +59,7 @@ module _ (le : Pair → Pair → Bool) (unit : Pair) (laws : Laws le unit) (h : 
         edges = edges_more h (q gives number n) ∙ append-nil (edges_of h) ∙ m.edges;
         rows = rows_more h (q gives number n) ∙ ap₂ (λ l r. l ++ r) m.rows (sym own.made);
         low = m.low;
-        stage = subst (ByStage le (with_call h q (number n)) c.edges (c.rows ++ taken (row_made relation k cs))) (sym own.drafted)
+        stage = subst (ByStage le (with_call h q (number n)) c.edges (c.rows ++ if_made (row_made relation k cs))) (sym own.drafted)
             (stays h (q gives number n) le (quiet_call q (number n) refl refl) c.edges c.rows draft (subst (ByStage le h c.edges c.rows) own.drafted m.stage));
       }
 
@@ -74,9 +74,9 @@ module _ (le : Pair → Pair → Bool) (unit : Pair) (laws : Laws le unit) (h : 
           let same = stays h event le (quiet_call seal (ends both.0 both.1) refl refl) c.edges c.rows draft by in
           moved h event le c (sealed both.0 both.1) refl refl
           ((exactly c.edges (ends_answer c.edges) both.0 both.1 (answer_says c.edges)).0 found, same.0, same.1) m
-      go (sealed s e) found by = never both _ found
-      go (certified s e p walk) found by = never both _ found
-      go (voided s e) found by = never both _ found
+      go (sealed s e) found by = cc
+      go (certified s e p walk) found by = cc
+      go (voided s e) found by = cc
 
   -- ---- claims
 
@@ -89,19 +89,19 @@ module _ (le : Pair → Pair → Bool) (unit : Pair) (laws : Laws le unit) (h : 
 
       go : (stage : Stage) → claim_answer le unit (record { stage = stage; edges = c.edges; rows = c.rows }) ts xs ≡ Ok p → ByStage le h c.edges c.rows stage →
           Meaning le (with_call h (claim ts xs) (price p)) (claim_kept (Ok p) (record { stage = stage; edges = c.edges; rows = c.rows }) ts)
-      go draft passed by = never p _ passed
-      go (certified s e q walk) passed by = never p _ passed
-      go (voided s e) passed by = never p _ passed
+      go draft passed by = cc
+      go (certified s e q walk) passed by = cc
+      go (voided s e) passed by = cc
       go (sealed s e) passed (two, no_claim, no_void) = moved h event le c (certified s e p (walk_from c.edges s e ts)) refl refl (now, none_new VoidClaimed h event shut no_void, λ K. by K (lately Claimed h event K)) m
         where
           now : Certified (h ++ (event ∷ []))
           now = record { before = h; event = event; opens = record { turns = ts; tree = xs; price_said = p; is = refl }; since = []; split = refl; standing = tt }
 
           shut : VoidClaimed event → ⊥
-          shut k = let q = ap (λ e. e.call) k.is in let z : ◌≡◌ {A = ℕ} 0 1 = cc in omega arith
+          shut k = cc (ap (λ e. e.call) k.is)
 
           first : Holds le c.edges c.rows s e p (walk_from c.edges s e ts) ts p []
-          first = holds_first le unit laws c.edges c.rows s e p ts two (between le unit laws c.edges c.rows ts xs s e p two passed)
+          first = holds_first le c.edges c.rows s e p ts two (passed_between le unit laws c.edges c.rows ts xs s e p two passed)
 
           by : (K : Certified (h ++ (event ∷ []))) → ((K.since ≡ []) × (event ≡ K.event)) ⊎ Earlier Claimed h event K →
               Holds le c.edges c.rows s e p (walk_from c.edges s e ts) (claimed_turns K) (certified_price K) (steps K)
@@ -111,11 +111,11 @@ module _ (le : Pair → Pair → Bool) (unit : Pair) (laws : Laws le unit) (h : 
               let q = ap (λ e. e.call) same in
               let a = ap (λ e. e.answer) same in
               let turns_same : ts ≡ claimed_turns K = cc in
-              let price-same : p ≡ certified_price K = cc in
-              let none-handed : [] ≡ steps K = sym (ap handed_out x.0) in
-              subst (Holds le c.edges c.rows s e p (walk_from c.edges s e ts) (claimed_turns K) (certified_price K)) none-handed
+              let price_same : p ≡ certified_price K = cc in
+              let none_handed : [] ≡ steps K = sym (ap handed_out x.0) in
+              subst (Holds le c.edges c.rows s e p (walk_from c.edges s e ts) (claimed_turns K) (certified_price K)) none_handed
               (subst (λ t. Holds le c.edges c.rows s e p (walk_from c.edges s e ts) t (certified_price K) []) turns_same
-              (subst (λ u. Holds le c.edges c.rows s e p (walk_from c.edges s e ts) ts u []) price-same first))
+              (subst (λ u. Holds le c.edges c.rows s e p (walk_from c.edges s e ts) ts u []) price_same first))
 
   by_void : (xs : List ℤ) (c : Contents) (r : Result (Unit {0}) Refusal) → void_answer le unit c xs ≡ r → Meaning le h c → Meaning le (with_call h (void xs) (unless_refused r)) (void_kept r c)
   by_void xs c (Err refusal) is m = still_so (void xs) refusal c m
@@ -126,9 +126,9 @@ module _ (le : Pair → Pair → Bool) (unit : Pair) (laws : Laws le unit) (h : 
 
       go : (stage : Stage) → void_answer le unit (record { stage = stage; edges = c.edges; rows = c.rows }) xs ≡ Ok tt → ByStage le h c.edges c.rows stage →
           Meaning le (with_call h (void xs) agreed) (void_kept (Ok tt) (record { stage = stage; edges = c.edges; rows = c.rows }))
-      go draft passed by = never tt _ passed
-      go (certified s e q walk) passed by = never tt _ passed
-      go (voided s e) passed by = never tt _ passed
+      go draft passed by = cc
+      go (certified s e q walk) passed by = cc
+      go (voided s e) passed by = cc
       go (sealed s e) passed (two, no_claim, no_void) =
           moved h event le c (voided s e) refl refl (now, none_new Claimed h event shut no_claim, two, (void_between le unit laws c.edges c.rows xs s e two passed).no_run) m
         where
@@ -136,7 +136,7 @@ module _ (le : Pair → Pair → Bool) (unit : Pair) (laws : Laws le unit) (h : 
           now = record { before = h; event = event; opens = record { tree = xs; is = refl }; since = []; split = refl; standing = tt }
 
           shut : Claimed event → ⊥
-          shut k = let q = ap (λ e. e.call) k.is in let z : ◌≡◌ {A = ℕ} 0 1 = cc in omega arith
+          shut k = cc (ap (λ e. e.call) k.is)
 
   -- ---- steps, and claims taken back
 
@@ -148,14 +148,14 @@ module _ (le : Pair → Pair → Bool) (unit : Pair) (laws : Laws le unit) (h : 
       event = step gives next x
 
       no_end : Withdrawal event → ⊥
-      no_end w = let q = w.0 in let z : ◌≡◌ {A = ℕ} 0 1 = cc in omega arith
+      no_end w = cc (w.0)
 
       shut : VoidClaimed event → ⊥
-      shut v = let q = ap (λ e. e.call) v.is in let z : ◌≡◌ {A = ℕ} 0 1 = cc in omega arith
+      shut v = cc (ap (λ e. e.call) v.is)
 
       by : (K : Certified (h ++ (event ∷ []))) → ((K.since ≡ []) × (event ≡ K.event)) ⊎ Earlier Claimed h event K →
           Holds le es rows s e p (walk_on es walk (Some x)) (claimed_turns K) (certified_price K) (steps K)
-      by K (inl y) = let q = ap (λ e. e.call) (y.1 ∙ K.opens.is) in let z : ◌≡◌ {A = ℕ} 0 1 = cc in absurd (omega arith)
+      by K (inl y) = cc (ap (λ e. e.call) (y.1 ∙ K.opens.is))
       by K (inr y) =
           subst (Holds le es rows s e p (walk_on es walk (Some x)) (claimed_turns K) (certified_price K)) (steps_more h event K y)
           (holds_next le es rows s e p walk (claimed_turns K) (certified_price K) (steps (was Claimed h event K y)) low (holds (was Claimed h event K y)) x is)
@@ -182,10 +182,10 @@ module _ (le : Pair → Pair → Bool) (unit : Pair) (laws : Laws le unit) (h : 
       event = withdraw gives agreed
 
       no_claim : Claimed event → ⊥
-      no_claim k = let q = ap (λ e. e.call) k.is in let z : ◌≡◌ {A = ℕ} 0 1 = cc in omega arith
+      no_claim k = cc (ap (λ e. e.call) k.is)
 
       no_void : VoidClaimed event → ⊥
-      no_void k = let q = ap (λ e. e.call) k.is in let z : ◌≡◌ {A = ℕ} 0 1 = cc in omega arith
+      no_void k = cc (ap (λ e. e.call) k.is)
 
       go : (stage : Stage) → Meaning le h (record { stage = stage; edges = c.edges; rows = c.rows }) →
           Meaning le (with_call h withdraw (unless_refused (withdraw_answer (record { stage = stage; edges = c.edges; rows = c.rows })))) (withdraw_kept (record { stage = stage; edges = c.edges; rows = c.rows }))
@@ -206,10 +206,6 @@ module _ (le : Pair → Pair → Bool) (unit : Pair) (laws : Laws le unit) (h : 
   by_call c told = unmoved h (told gives tells (told_answer c)) le c (quiet_call told (tells (told_answer c)) refl refl) refl refl
 
 module _ (le : Pair → Pair → Bool) (unit : Pair) (laws : Laws le unit) where
-  -- in a fresh case nothing was called yet
-  none_yet : (Opens : Event → Type 0) → Since Opens [] → ⊥
-  none_yet Opens k = nil_is_no_cons k.before k.event k.since k.split
-
   pub meaning : {h : History} {c : Contents} → Reached le unit h c → Meaning le h c
-  meaning start = record { edges = refl; rows = refl; low = tt; stage = (none_yet Claimed, none_yet VoidClaimed) }
+  meaning start = record { edges = refl; rows = refl; low = tt; stage = (none_at_first Claimed, none_at_first VoidClaimed) }
   meaning (one_more {h} {c} q r) = by_call le unit laws h c q (meaning r)

@@ -13,7 +13,8 @@ use Rattle.history.specs.Calls.{Request, edge, row, seal, claim, void, step, wit
 use Rattle.judge.specs.Cases.{Contents}
 use Rattle.judge.specs.Claiming.{Greatest, claim_answer, void_answer}
 use Rattle.judge.specs.Drafting.{edge_answer, row_answer, seal_answer}
-use Rattle.judge.specs.Handing.{next_of, step_in, step_answer, withdraw_answer, only_stage, told_in, told_answer}
+use Rattle.judge.specs.Reports.{only_stage}
+use Rattle.judge.specs.Handing.{next_of, step_in, step_answer, withdraw_answer, told_in, told_answer}
 use Rattle.history.specs.History.{Event, History, ◌gives◌, accepted, Answers, Moment, Begins}
 use Rattle.history.specs.Known.{Certified, Void, claimed_turns, certified_price, steps, turns_left}
 use Rattle.history.specs.Performing.{answered}
@@ -58,17 +59,13 @@ module _ (le : Pair → Pair → Bool) (unit : Pair) where
   agreed_kind (Ok _) = inr refl
   agreed_kind (Err refusal) = inl refl
 
+  numbered_kind : (r : Result ℕ Refusal) → (accepted (numbered r) ≡ false) ⊎ ((n : ℕ) × (numbered r ≡ number n))
+  numbered_kind (Ok n) = inr (n, refl)
+  numbered_kind (Err refusal) = inl refl
+
   kind : (c : Contents) (q : Request) → (accepted (answered le unit c q) ≡ false) ⊎ Answers q (answered le unit c q)
-  kind c (edge tail head block cycles reads) = by (edge_answer c tail head block cycles reads)
-    where
-      by : (r : Result ℕ Refusal) → (accepted (numbered r) ≡ false) ⊎ ((n : ℕ) × (numbered r ≡ number n))
-      by (Ok n) = inr (n, refl)
-      by (Err refusal) = inl refl
-  kind c (row relation k cs) = by (row_answer c relation k cs)
-    where
-      by : (r : Result ℕ Refusal) → (accepted (numbered r) ≡ false) ⊎ ((n : ℕ) × (numbered r ≡ number n))
-      by (Ok n) = inr (n, refl)
-      by (Err refusal) = inl refl
+  kind c (edge tail head block cycles reads) = numbered_kind (edge_answer c tail head block cycles reads)
+  kind c (row relation k cs) = numbered_kind (row_answer c relation k cs)
   kind c seal = by (seal_answer c)
     where
       by : (r : Result (ℕ × ℕ) Refusal) → (accepted (ended r) ≡ false) ⊎ ((s : ℕ) × ((e : ℕ) × (ended r ≡ ends s e)))
@@ -122,8 +119,8 @@ module _ (le : Pair → Pair → Bool) (h : History) where
   module _ (es : List Edge) (rows : List Row) where
     -- with nothing certified told shows the stage alone
     idle_tells : (n : ℕ) → (n ≡ 2 → ⊥) → (Certified h → ⊥) → ((n ≡ 3) ↔ Void h) → Tells h (only_stage n)
-    idle_tells n not-two no_claim voids = record {
-      certified = (λ e. absurd (not-two e), λ k. absurd (no_claim k));
+    idle_tells n not_two no_claim voids = record {
+      certified = (λ e. absurd (not_two e), λ k. absurd (no_claim k));
       price = λ k. absurd (no_claim k);
       void = voids;
       steps_told = λ k. absurd (no_claim k);
@@ -172,7 +169,7 @@ module _ (le : Pair → Pair → Bool) (h : History) where
         where
           by : (r : Option ℕ) → Stepped es s e (claimed_turns k) (steps k) walk.left walk.at r → (next_or_done r ≡ done) ↔ (length (steps k) ≡ sum (claimed_turns k))
           by None there = (λ _. (ends_when s e p walk k holds).0 there, λ _. refl)
-          by (Some x) more = (λ is. let z : ◌≡◌ {A = ℕ} 0 1 = cc in absurd (omega arith), λ all. absurd (more.off ((ends_when s e p walk k holds).1 all)))
+          by (Some x) more = (λ is. cc, λ all. absurd (more.off ((ends_when s e p walk k holds).1 all)))
 
 -- ---- the rules
 

@@ -1,18 +1,19 @@
 -- What one more event does to what a history says of its case.
-use Rattle.std.proofs.Common.{◌≡◌, ℕ, cond, ◌⊎◌, List, [], ◌∷◌, ◌++◌, sym, refl, ap, ◌∙◌, subst, inl, inr, append_assoc, append-nil, arith}
+use Rattle.std.proofs.Common.{◌≡◌, cond, ◌⊎◌, List, [], ◌∷◌, ◌++◌, sym, refl, ap, ◌∙◌, subst, inl, inr, append_assoc, append-nil}
 use Rattle.std.specs.List.{AllByRecursion}
 use Rattle.std.proofs.ByRecursion.{All-push}
 use Rattle.history.specs.History.{Event, History, accepted}
 use Rattle.history.specs.Known.{edge_by, row_by, step_by, edges_of, rows_of, handed_out, Withdrawal, Since}
 use Rattle.task.specs.Rows.{Row}
+use Rattle.task.proofs.Joined.{all_front, all_behind}
 use Rattle.task.specs.declared.edges.Edge.{Edge}
 
 -- ---- a list with one more at its end
 
 module _ {A : Type 0} where
   pub nil_is_no_cons : (ys : List A) (y : A) (zs : List A) → [] ≡ ys ++ (y ∷ zs) → ⊥
-  nil_is_no_cons [] y zs e = let z : ◌≡◌ {A = ℕ} 0 1 = cc in omega arith
-  nil_is_no_cons (x ∷ ys) y zs e = let z : ◌≡◌ {A = ℕ} 0 1 = cc in omega arith
+  nil_is_no_cons [] y zs e = cc
+  nil_is_no_cons (x ∷ ys) y zs e = cc
 
   -- where y stands in xs with x at its end: it is that x, or it stands in xs
   pub data Last (xs : List A) (x : A) (ys : List A) (y : A) (zs : List A) : Type 0 where
@@ -29,11 +30,11 @@ module _ {A : Type 0} where
   last (v ∷ xs) x [] y zs e = inside xs (cc) (cc)
   last (v ∷ xs) x (w ∷ ys) y zs e = under v w xs x ys y zs (cc) (last xs x ys y zs (cc))
 
-  all_front : (P : A → Type 0) (xs : List A) (x : A) → AllByRecursion P (xs ++ (x ∷ [])) → AllByRecursion P xs × P x
-  all_front P [] x h = (tt, h.0)
-  all_front P (y ∷ xs) x h = let r = all_front P xs x h.1 in ((h.0, r.0), r.1)
-
 -- ---- one more event
+
+-- in a fresh case nothing was called yet
+pub none_at_first : (Opens : Event → Type 0) → Since Opens [] → ⊥
+none_at_first Opens k = nil_is_no_cons k.before k.event k.since k.split
 
 -- an event that opens, with no accepted withdraw since, is this last one, or stood before it
 module _ (Opens : Event → Type 0) (h : History) (e : Event) where
@@ -50,8 +51,8 @@ module _ (Opens : Event → Type 0) (h : History) (e : Event) where
   by_last : (k : Since Opens (h ++ (e ∷ []))) → Last h e k.before k.event k.since → ((k.since ≡ []) × (e ≡ k.event)) ⊎ Earlier k
   by_last k (here none same is) = inl (none, is)
   by_last k (inside rest more old) =
-      let parts = all_front (λ x. Withdrawal x → ⊥) rest e (subst (AllByRecursion (λ x. Withdrawal x → ⊥)) more k.standing) in
-      inr (record { rest = rest; more = more; old = old; standing = parts.0; kept = parts.1 })
+      let standing : AllByRecursion (λ x. Withdrawal x → ⊥) (rest ++ (e ∷ [])) = subst (AllByRecursion (λ x. Withdrawal x → ⊥)) more k.standing in
+      inr (record { rest = rest; more = more; old = old; standing = all_front _ rest (e ∷ []) standing; kept = (all_behind _ rest (e ∷ []) standing).0 })
 
   pub lately : (k : Since Opens (h ++ (e ∷ []))) → ((k.since ≡ []) × (e ≡ k.event)) ⊎ Earlier k
   lately k = by_last k (last h e k.before k.event k.since k.split)

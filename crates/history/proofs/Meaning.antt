@@ -1,5 +1,5 @@
 -- What a case holds, by its history: what each stage means, and what leaves it so.
-use Rattle.std.proofs.Common.{◌≡◌, ℕ, ◌≤◌, Bool, true, false, cond, ◌⊎◌, List, [], ◌∷◌, ◌++◌, sum, sym, refl, ap, ◌∙◌, subst, inl, inr, append-nil, arith}
+use Rattle.std.proofs.Common.{◌≡◌, ℕ, ◌≤◌, Bool, true, false, cond, ◌⊎◌, List, [], ◌∷◌, ◌++◌, sum, sym, refl, ap, ◌∙◌, subst, inl, inr, append-nil}
 use Rattle.std.specs.List.{AllByRecursion}
 use Rattle.std.proofs.lemmas.Bool.{both_ways}
 use Rattle.price.specs.Pairs.{Pair}
@@ -90,9 +90,9 @@ no_step_refused told r = refl
 
 pub quiet_refused : (q : Request) (r : Refusal) → Quiet (q gives refused r)
 quiet_refused q r = record {
-  no_claim = λ k. let a = ap (λ e. e.answer) k.is in let z : ◌≡◌ {A = ℕ} 0 1 = cc in omega arith;
-  no_void = λ k. let a = ap (λ e. e.answer) k.is in let z : ◌≡◌ {A = ℕ} 0 1 = cc in omega arith;
-  no_end = λ w. let a = w.1 in let z : ◌≡◌ {A = ℕ} 0 1 = cc in omega arith;
+  no_claim = λ k. cc (ap (λ e. e.answer) k.is);
+  no_void = λ k. cc (ap (λ e. e.answer) k.is);
+  no_end = λ w. cc (w.1);
   no_step = no_step_refused q r;
 }
 

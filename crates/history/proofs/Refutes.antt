@@ -5,15 +5,15 @@ use Rattle.std.specs.List.{AllByRecursion}
 use Rattle.price.specs.Pairs.{Pair}
 use Rattle.task.specs.Graph.{tail_of, head_of, Start, End, Path}
 use Rattle.task.specs.Rows.{KeepsAll}
-use Rattle.task.specs.Turns.{turns as turns-of, price_of, turns_in}
+use Rattle.task.specs.Turns.{turns as turns_of, price_of, turns_in}
 use Rattle.task.specs.declared.edges.Edge.{Edge}
 use Rattle.history.specs.Answers.{next, price as priced, agreed}
 use Rattle.history.specs.Calls.{claim, void, step, withdraw}
-use Rattle.history.specs.History.{Event, History, ◌gives◌, with_call}
-use Rattle.history.specs.Known.{edges_of, rows_of, Claimed, VoidClaimed, Withdrawal, Since, Certified, Void}
+use Rattle.history.specs.History.{History, ◌gives◌, with_call}
+use Rattle.history.specs.Known.{edges_of, rows_of, Claimed, VoidClaimed, Withdrawal, Certified, Void}
 use Rattle.history.specs.Refuting.{task, turns, certified, Refuted, HollowAnswersRefuted}
 use Rattle.history.specs.Rules.{HandsOut}
-use Rattle.history.proofs.Lately.{nil_is_no_cons, none_left}
+use Rattle.history.proofs.Lately.{none_at_first, none_left}
 
 abbrev graph : List Edge
 graph = edges_of task
@@ -53,9 +53,6 @@ it_keeps = record {
   keeps = (le_z_yes tt, tt);
 }
 
-none_at_first : (Opens : Event → Type 0) → Since Opens [] → ⊥
-none_at_first Opens k = nil_is_no_cons k.before k.event k.since k.split
-
 module _ (tree : List ℤ) (p : Pair) where
   -- the case is certified, also after more steps
   certified_with : (more : List ℕ) → Certified (certified tree p ++ map (λ x. step gives next x) more)
@@ -69,7 +66,7 @@ module _ (tree : List ℤ) (p : Pair) where
   }
     where
       no_withdraw : (x : ℕ) → Withdrawal (step gives next x) → ⊥
-      no_withdraw x w = let q = w.0 in let z : ◌≡◌ {A = ℕ} 0 1 = cc in omega arith
+      no_withdraw x w = cc (w.0)
 
       all_steps : (xs : List ℕ) → AllByRecursion (λ e. Withdrawal e → ⊥) (map (λ x. step gives next x) xs)
       all_steps [] = tt
@@ -95,20 +92,20 @@ module _ (le : Pair → Pair → Bool) (tree : List ℤ) (p : Pair) where
   refuted = record {
     unclaimed = λ state two rules. none_at_first Claimed ((rules.told_tells [] state ([], refl)).certified.0 two);
     unvoided = λ state three rules. none_at_first VoidClaimed ((rules.told_tells [] state ([], refl)).void.0 three);
-    withdrawn = λ state two rules. none_left Claimed (now tree p) (withdraw gives agreed) (λ k. let q = ap (λ e. e.call) k.is in let z : ◌≡◌ {A = ℕ} 0 1 = cc in omega arith) (refl, refl)
+    withdrawn = λ state two rules. none_left Claimed (now tree p) (withdraw gives agreed) (λ k. cc (ap (λ e. e.call) k.is)) (refl, refl)
         ((rules.told_tells (with_call (now tree p) withdraw agreed) state ([], refl)).certified.0 two);
     hidden = λ state other rules. other ((rules.told_tells (now tree p) state ([], refl)).certified.1 (it_is tree p));
     too_cheap = λ dearer rules. let z : T false = subst T dearer ((rules.greatest (now tree p) ([], refl) (it_is tree p)).none_dearer the_run it_keeps) in z;
     made_up_price = λ other rules. let out = rules.hands_out (now tree p) ([], refl) (it_is tree p) in other (sym out.price ∙ ap (price_of graph) out.exact);
     untold_price = λ state other rules. other ((rules.told_tells (now tree p) state ([], refl)).price (it_is tree p));
-    stuck = λ refusal rules. let e = rules.step_accepts (now tree p) _ ([], refl) (it_is tree p) in let z : ◌≡◌ {A = ℕ} 0 1 = cc in omega arith;
+    stuck = λ refusal rules. cc (rules.step_accepts (now tree p) _ ([], refl) (it_is tree p));
     repeats = λ rules. let out = rules.hands_out (certified tree p ++ (step gives next 0 ∷ [])) ([], refl) (certified_with tree p (0 ∷ [])) in
-        let e : 1 + (1 + turns-of 0 out.rest) ≡ 1 = ap (λ l. get_or l 0 0) out.exact in omega arith;
+        let e : 1 + (1 + turns_of 0 out.rest) ≡ 1 = ap (λ l. get_or l 0 0) out.exact in omega arith;
     leaves_early = λ rules. no_way_back (rules.hands_out (certified tree p ++ (step gives next 1 ∷ (step gives next 3 ∷ []))) ([], refl) (certified_with tree p (1 ∷ 3 ∷ [])));
     done_early = λ rules. let e : ◌≡◌ {A = ℕ} 1 9 = (rules.step_done (now tree p) _ ([], refl) (it_is tree p)).0 refl in omega arith;
     made_up_steps = λ state other rules. other ((rules.told_tells (now tree p) state ([], refl)).steps_told (it_is tree p));
     made_up_left = λ state other rules. other ((rules.told_tells (now tree p) state ([], refl)).left_told (it_is tree p));
-    silent = λ refusal rules. let e = rules.told_accepts [] _ ([], refl) in let z : ◌≡◌ {A = ℕ} 0 1 = cc in omega arith;
+    silent = λ refusal rules. cc (rules.told_accepts [] _ ([], refl));
     void_with_a_run = λ rules. rules.no_run (with_call task (void tree) agreed) ([], refl) voided the_run it_keeps;
   }
     where

@@ -4,7 +4,6 @@ use Rattle.std.specs.List.{AllByRecursion}
 use Rattle.std.proofs.ByRecursion.{All-get_or}
 use Rattle.std.proofs.lemmas.List.{get_or_past}
 use Rattle.std.proofs.lemmas.Bool.{cases_lt}
-use Rattle.price.specs.Laws.{Laws}
 use Rattle.price.specs.Pairs.{Pair}
 use Rattle.task.specs.Graph.{no_edge, edge_at, head_of, Start}
 use Rattle.task.specs.Rows.{Row}
@@ -39,9 +38,9 @@ at_low : (es : List Edge) → AllByRecursion Low es → (v : ℕ) → v ≤ 31 �
 at_low es low v h [] = h
 at_low es low v h (x ∷ xs) = at_low es low (head_of es x) (low_at es low x).head xs
 
-module _ (le : Pair → Pair → Bool) (unit : Pair) (laws : Laws le unit) (es : List Edge) (rows : List Row) (s e : ℕ) (p : Pair) where
+module _ (le : Pair → Pair → Bool) (es : List Edge) (rows : List Row) (s e : ℕ) (p : Pair) where
   -- after a claim nothing is handed out yet
-  pub holds_first : (ts : List ℕ) → Ends es s e → Passed le unit laws es rows s e ts p → Holds le es rows s e p (walk_from es s e ts) ts p []
+  pub holds_first : (ts : List ℕ) → Ends es s e → Passed le es rows s e ts p → Holds le es rows s e p (walk_from es s e ts) ts p []
   holds_first ts ends passed = record {
     ends = ends;
     sound = passed.sound;

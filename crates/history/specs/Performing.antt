@@ -1,6 +1,6 @@
 -- What a call answers, and what the case then holds.
 use Rattle.std.specs.Prelude.{Bool}
-use Rattle.history.specs.Answers.{Said, numbered, ended, priced, stepped, unless_refused, told as told-state}
+use Rattle.history.specs.Answers.{Said, numbered, ended, priced, stepped, unless_refused, told as tells}
 use Rattle.history.specs.Calls.{Request, edge, row, seal, claim, void, step, withdraw, told}
 use Rattle.judge.specs.Cases.{Contents}
 use Rattle.judge.specs.Claiming.{claim_answer, claim_kept, void_answer, void_kept}
@@ -17,7 +17,7 @@ module _ (le : Pair → Pair → Bool) (unit : Pair) where
   answered c (void tree) = unless_refused (void_answer le unit c tree)
   answered c step = stepped (step_answer c)
   answered c withdraw = unless_refused (withdraw_answer c)
-  answered c told = told-state (told_answer c)
+  answered c told = tells (told_answer c)
 
   abbrev pub after : Contents → Request → Contents
   after c (edge tail head block cycles reads) = edge_kept (edge_answer c tail head block cycles reads) c tail head block cycles reads

@@ -1,6 +1,6 @@
 -- What a case holds.
 use Rattle.std.specs.Prelude.{◌≡◌, ℕ, ◌≤◌, true, List, [], map, sum, Vec, vec_items, vec_len, vec_capacity}
-use Rattle.judge.specs.Stages.{Stage, draft, stage_of, stage_ends_hold}
+use Rattle.judge.specs.Stages.{Stage, draft, stage_of, ends_held}
 use Rattle.judge.specs.declared.stages.Stage as declared
 use Rattle.task.specs.declared.edges.Edge.{Edge}
 use Rattle.task.specs.declared.rows.Row as declared_row
@@ -24,7 +24,7 @@ module _ {Y : Type 0} (stage : declared.Stage) (edges : Vec Edge Y) (rows : Vec 
     pub few_rows : vec_len rows ≤ 24
     pub row_room : 24 ≤ vec_capacity rows
     pub few_left : sum left ≤ 67108800
-    pub ends_hold : stage_ends_hold stage (vec_items edges) ≡ true
+    pub ends_hold : ends_held (stage_of stage exits left) (vec_items edges) ≡ true
 
 abbrev pub fresh : Contents
 fresh = record { stage = draft; edges = []; rows = [] }

@@ -15,9 +15,9 @@ and_then (Ok x) more = more x
 and_then (Err refusal) more = Err refusal
 
 -- what was made, if it was
-abbrev pub taken : {A : Type 0} → Result A Refusal → List A
-taken (Ok x) = x ∷ []
-taken (Err refusal) = []
+abbrev pub if_made : {A : Type 0} → Result A Refusal → List A
+if_made (Ok x) = x ∷ []
+if_made (Err refusal) = []
 
 abbrev pub edge_answer : Contents → ℕ → ℕ → ℕ → ℕ → ℕ → Result ℕ Refusal
 edge_answer c tail head block cycles reads =
@@ -30,7 +30,7 @@ edge_answer c tail head block cycles reads =
 -- an accepted edge comes last, and a refusal changes nothing
 abbrev pub edge_kept : Result ℕ Refusal → Contents → ℕ → ℕ → ℕ → ℕ → ℕ → Contents
 edge_kept (Ok number) c tail head block cycles reads =
-    record { stage = c.stage; edges = c.edges ++ taken (edge_made tail head block cycles reads); rows = c.rows }
+    record { stage = c.stage; edges = c.edges ++ if_made (edge_made tail head block cycles reads); rows = c.rows }
 edge_kept (Err refusal) c tail head block cycles reads = c
 
 abbrev pub row_answer : Contents → ℤ → ℤ → List ℤ → Result ℕ Refusal
@@ -42,7 +42,7 @@ row_answer c relation k cs =
 
 -- an accepted row comes last, and a refusal changes nothing
 abbrev pub row_kept : Result ℕ Refusal → Contents → ℤ → ℤ → List ℤ → Contents
-row_kept (Ok number) c relation k cs = record { stage = c.stage; edges = c.edges; rows = c.rows ++ taken (row_made relation k cs) }
+row_kept (Ok number) c relation k cs = record { stage = c.stage; edges = c.edges; rows = c.rows ++ if_made (row_made relation k cs) }
 row_kept (Err refusal) c relation k cs = c
 
 abbrev pub seal_answer : Contents → Result (ℕ × ℕ) Refusal

@@ -1,9 +1,8 @@
 -- The calls that hand out a certified run, take a claim back and tell the state of a case.
 use Rattle.std.specs.Prelude.{ℕ, ◌-◌, List, Some, None, Ok, Err, sum, Option, Result, slice_index}
-use Rattle.judge.specs.Reports.{State}
+use Rattle.judge.specs.Reports.{State, only_stage}
 use Rattle.judge.specs.Cases.{Contents}
 use Rattle.judge.specs.Stages.{Stage, Walk, draft, sealed, certified, void}
-use Rattle.price.specs.Pairs.{zero}
 use Rattle.price.specs.declared.refusals.Refusal.{Refusal}
 use Rattle.price.specs.declared.refusals.Refusal.TheVariants.{NotCertified, NothingToWithdraw}
 use Rattle.task.specs.Graph.{head_of}
@@ -64,9 +63,6 @@ abbrev pub withdraw_kept : Contents → Contents
 withdraw_kept c = record { stage = when_withdrawn c.stage; edges = c.edges; rows = c.rows }
 
 -- ---- told
-
-abbrev pub only_stage : ℕ → State
-only_stage n = record { stage = n; price = zero; steps = 0; left = 0 }
 
 abbrev pub told_in : Stage → State
 told_in draft = only_stage 0

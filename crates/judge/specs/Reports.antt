@@ -13,8 +13,11 @@ pub record State : Type 0 where
   pub left : ℕ
 
 -- all but the stage are 0 unless certified
+abbrev pub only_stage : ℕ → State
+only_stage n = record { stage = n; price = zero; steps = 0; left = 0 }
+
 abbrev pub shown : Report → State
-shown Draft = record { stage = 0; price = zero; steps = 0; left = 0 }
-shown Sealed = record { stage = 1; price = zero; steps = 0; left = 0 }
+shown Draft = only_stage 0
+shown Sealed = only_stage 1
 shown (Certified price steps left) = record { stage = 2; price = pair price; steps = steps; left = left }
-shown Void = record { stage = 3; price = zero; steps = 0; left = 0 }
+shown Void = only_stage 3

@@ -45,13 +45,6 @@ answers_ends (Ok ends) start end = ends.0 == start && ends.1 == end
 answers_ends (Err refusal) start end = false
 
 -- past the draft, the start and the end are those of the graph
-abbrev pub stage_ends_hold : declared.Stage → List Edge → Bool
-stage_ends_hold Draft edges = true
-stage_ends_hold (Sealed start end) edges = answers_ends (ends_answer edges) start end
-stage_ends_hold (Certified start end price all at) edges = answers_ends (ends_answer edges) start end
-stage_ends_hold (Void start end) edges = answers_ends (ends_answer edges) start end
-
--- the same of a stage as the contents of a case have it
 abbrev pub ends_held : Stage → List Edge → Bool
 ends_held draft edges = true
 ends_held (sealed start end) edges = answers_ends (ends_answer edges) start end

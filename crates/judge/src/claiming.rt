@@ -1,7 +1,7 @@
 // The calls that judge a claim. What a call does depends on the stage: each matches on it.
 ghost use Rattle.std.specs.Prelude.{◌≡◌, ◌≤◌, length, IfOk, OnOk};
 ghost use Rattle.certificate.specs.Tasks.{task_of};
-ghost use Rattle.certificate.specs.Verdicts.{void_answer as tree_answer};
+ghost use Rattle.certificate.specs.Verdicts as verdicts;
 ghost use Rattle.judge.specs.Claiming.{Accepted, Voided, claim_answer, claim_kept, claim_on, task_between, void_answer, void_kept};
 ghost use Rattle.judge.specs.Counts.{Few};
 ghost use Rattle.price.specs.Prices.{pair};
@@ -72,7 +72,7 @@ impl Case {
         end: u8,
         tree: &[i32],
     ) -> Result<(), Refusal>
-        ensures { result ≡ tree_answer (T.le tariff.now) (T.unit tariff.now) (task_between self.now.edges self.now.rows start end) tree.now }
+        ensures { result ≡ verdicts.void_answer (T.le tariff.now) (T.unit tariff.now) (task_between self.now.edges self.now.rows start end) tree.now }
     {
         prove_void(tariff, self.task(start, end), tree)
     }

@@ -9,7 +9,7 @@ use Rattle.task.specs.Edges.{edge_made, repeated}
 use Rattle.task.specs.Sides.{reaches}
 use Rattle.task.specs.declared.edges.Edge.{Edge}
 use Rattle.judge.specs.Cases.{Contents}
-use Rattle.judge.specs.Drafting.{and_then, taken, edge_answer, edge_kept}
+use Rattle.judge.specs.Drafting.{and_then, if_made, edge_answer, edge_kept}
 use Rattle.judge.specs.Stages.{draft}
 use Rattle.history.specs.Answers.{number, ends, refused, numbered}
 use Rattle.history.specs.Calls.{Request, seal, claim}
@@ -40,7 +40,7 @@ module _ (es : List Edge) (tail head : ℕ) (c : Costs) (low : leb tail 31 ≡ t
       ∙ yes (not (repeated (made_of tail head c) es)) _ _ (ap not new)
 
   leaves : edge_kept (edge_answer (holds es) tail head c.block c.cycles c.reads) (holds es) tail head c.block c.cycles c.reads ≡ holds (es ++ (made_of tail head c ∷ []))
-  leaves = ap (λ r. edge_kept r (holds es) tail head c.block c.cycles c.reads) says ∙ ap (λ m. holds (es ++ taken m)) made
+  leaves = ap (λ r. edge_kept r (holds es) tail head c.block c.cycles c.reads) says ∙ ap (λ m. holds (es ++ if_made m)) made
 
   -- one more edge is taken
   one_edge : (calls : List Request) → answers_from by_cycles one_read (holds es) (an_edge tail head c ∷ calls) ≡ number (length es) ∷ answers_from by_cycles one_read (holds (es ++ (made_of tail head c ∷ []))) calls
