@@ -3,15 +3,16 @@ use Rattle.std.proofs.Common.{◌≡◌, ℕ, zero, suc, ◌+◌, ◌/◌, ◌%�
 use Rattle.std.specs.Fmt.{signed_decimal}
 use Rattle.std.proofs.lemmas.Fmt.{decimal_digit, decimal_step, decimal_by_steps}
 use Rattle.std.proofs.lemmas.Int.{ints}
+use Rattle.std.proofs.lemmas.Option.{none-some}
 use Rattle.std.proofs.lemmas.Bool.{cond-true, cond-false, eq-eqb, eqb-true, ne_eqb, lt-ltb, ltb-true}
 use Rattle.std.proofs.lemmas.Bool.Decides.{nat_tests}
 use Rattle.grammar.specs.Options.{and_then}
 use Rattle.grammar.specs.Numbers.{digit, with_digit, digits_on, natural_front, positive, negative, sized, by_sign, integer_front, after}
 use Rattle.grammar.specs.Spelling.{Natural, Integer}
-use Rattle.grammar.proofs.Marks.{never, some_moved, mark_before}
+use Rattle.grammar.proofs.Marks.{some_moved, mark_before}
 use Rattle.grammar.proofs.Readers.{Ends, Found, Reads}
 
--- one digit
+-- ---- one digit
 
 digit_is : (n : ℕ) → n < 10 → digit (48 + n) ≡ Some n
 digit_is n h = grind (arith, nat_tests)
@@ -29,7 +30,7 @@ with_digit_sound n c m e =
     let parts : (m < 4294967296) × (10 ≤ m) × (m / 10 ≡ n) × (48 + m % 10 ≡ c) = grind (arith, nat_tests) in
     (parts.0, decimal_step m parts.1 (omega arith) ∙ ap (λ k. decimal k ++ ((48 + m % 10) ∷ [])) parts.2 ∙ ap (λ k. decimal n ++ (k ∷ [])) parts.3)
 
--- natural numbers
+-- ---- natural numbers
 
 digit_more : (n : ℕ) (ds rest : List ℕ) → 10 ≤ n → n < 4294967296 →
     ((more : List ℕ) → natural_front (ds ++ more) ≡ digits_on (n / 10) more) → natural_front ((ds ++ ((48 + n % 10) ∷ [])) ++ rest) ≡ digits_on n rest
@@ -52,7 +53,7 @@ digits_ended n (c ∷ cs) ends = cond-true (eqb c 32) _ _ (eq-eqb c 32 ends)
 digit_then : (n c : ℕ) (cs : List ℕ) (p : ℕ × List ℕ) (o : Option ℕ) → with_digit n c ≡ o →
     ((m : ℕ) → Natural m → digits_on m cs ≡ Some p → Found decimal Natural (decimal m ++ cs) p) →
     and_then o (λ m. digits_on m cs) ≡ Some p → Found decimal Natural (decimal n ++ (c ∷ cs)) p
-digit_then n c cs p None e more h = never p h
+digit_then n c cs p None e more h = absurd (none-some p h)
 digit_then n c cs p (Some m) e more h =
     let d = with_digit_sound n c m e in let s = more m d.0 h in
     (s.0 ∙ ap (λ ds. ds ++ cs) d.1 ∙ append_assoc (decimal n) (c ∷ []) cs, s.1, s.2)
@@ -70,40 +71,40 @@ digits_sound n (c ∷ cs) p small e = blank_or_digit n c cs p (eqb c 32) small r
 
 first_digit : (c : ℕ) (cs : List ℕ) (p : ℕ × List ℕ) (o : Option ℕ) → digit c ≡ o → and_then o (λ n. digits_on n cs) ≡ Some p →
     Found decimal Natural (c ∷ cs) p
-first_digit c cs p None e h = never p h
+first_digit c cs p None e h = absurd (none-some p h)
 first_digit c cs p (Some n) e h =
     let d = digit_sound c n e in let s = digits_sound n cs p (omega arith) h in (s.0 ∙ ap (λ ds. ds ++ cs) d.1, s.1, s.2)
 
 natural_sound : (text : List ℕ) (p : ℕ × List ℕ) → natural_front text ≡ Some p → Found decimal Natural text p
-natural_sound [] p e = never p e
+natural_sound [] p e = absurd (none-some p e)
 natural_sound (c ∷ cs) p e = first_digit c cs p (digit c) refl e
 
 pub reads_natural : Reads natural_front decimal Natural
 reads_natural = record { sound = natural_sound; complete = λ n rest small ends. front_decimal n small rest ∙ digits_ended n rest ends }
 
--- integers
+-- ---- integers
 
 -- what a sign makes of a size
 positive_sound : (n : ℕ) (z : ℤ) (b : Bool) → ltb n 2147483648 ≡ b → cond b (Some (pos n)) None ≡ Some z → (signed_decimal z ≡ decimal n) × Integer z
 positive_sound n z true h e = some_moved (λ z. (signed_decimal z ≡ decimal n) × Integer z) (pos n) z e
     (refl, let less = ltb-true n 2147483648 h in (omega (arith, ints), omega (arith, ints)))
-positive_sound n z false h e = never z e
+positive_sound n z false h e = absurd (none-some z e)
 
 negative_by : (n : ℕ) (z : ℤ) (b : Bool) → ltb n 2147483648 ≡ b → cond b (Some (negsuc n)) None ≡ Some z →
     (signed_decimal z ≡ 45 ∷ decimal (suc n)) × Integer z
 negative_by n z true h e = some_moved (λ z. (signed_decimal z ≡ 45 ∷ decimal (suc n)) × Integer z) (negsuc n) z e
     (refl, let less = ltb-true n 2147483648 h in (omega (arith, ints), omega (arith, ints)))
-negative_by n z false h e = never z e
+negative_by n z false h e = absurd (none-some z e)
 
 negative_sound : (n : ℕ) (z : ℤ) → negative n ≡ Some z → (signed_decimal z ≡ 45 ∷ decimal n) × Integer z
-negative_sound zero z e = never z e
+negative_sound zero z e = absurd (none-some z e)
 negative_sound (suc n) z e = negative_by n z (ltb n 2147483648) refl e
 
 -- a sign of either kind: `mark` is what it writes before the size
 module _ (sign : ℕ → Option ℤ) (mark : List ℕ) (signs : (n : ℕ) (z : ℤ) → sign n ≡ Some z → (signed_decimal z ≡ mark ++ decimal n) × Integer z) where
   signed_sound : (text : List ℕ) (p : ℤ × List ℕ) (q : ℕ × List ℕ) (o : Option ℤ) → sign q.0 ≡ o → Found decimal Natural text q →
       and_then {B = ℤ × List ℕ} o (λ z. Some (z, q.1)) ≡ Some p → Found signed_decimal Integer (mark ++ text) p
-  signed_sound text p q None e found h = never p h
+  signed_sound text p q None e found h = absurd (none-some p h)
   signed_sound text p q (Some z) e found h =
       let s = signs q.0 z e in
       some_moved (Found signed_decimal Integer (mark ++ text)) (z, q.1) p h (
@@ -114,7 +115,7 @@ module _ (sign : ℕ → Option ℤ) (mark : List ℕ) (signs : (n : ℕ) (z : �
 
   sized_sound : (text : List ℕ) (p : ℤ × List ℕ) (o : Option (ℕ × List ℕ)) → natural_front text ≡ o → sized sign o ≡ Some p →
       Found signed_decimal Integer (mark ++ text) p
-  sized_sound text p None e h = never p h
+  sized_sound text p None e h = absurd (none-some p h)
   sized_sound text p (Some q) e h = signed_sound text p q (sign q.0) refl (natural_sound text q e) h
 
 sign_sound : (text : List ℕ) (p : ℤ × List ℕ) (o : Option (List ℕ)) → after (45 ∷ []) text ≡ o → by_sign text o ≡ Some p → Found signed_decimal Integer text p
@@ -128,7 +129,7 @@ positive_complete : (text rest : List ℕ) (n : ℕ) (o : Option (List ℕ)) →
     by_sign text o ≡ Some (pos n, rest)
 positive_complete text rest n None e h small =
     ap (sized positive) h ∙ ap (λ s. and_then s (λ z. Some (z, rest))) (cond-true (ltb n 2147483648) _ _ (lt-ltb n 2147483648 small))
-positive_complete text rest n (Some digits) e h small = never (n, rest) (ap natural_front (mark_before (45 ∷ []) text digits e) ∙ h)
+positive_complete text rest n (Some digits) e h small = absurd (none-some (n, rest) (ap natural_front (mark_before (45 ∷ []) text digits e) ∙ h))
 
 integer_complete : (z : ℤ) (rest : List ℕ) → Integer z → Ends rest → integer_front (signed_decimal z ++ rest) ≡ Some (z, rest)
 integer_complete (pos n) rest small ends =

@@ -5,9 +5,6 @@ use Rattle.std.proofs.lemmas.Bool.{cond-true, eq-eqb, eqb-true}
 use Rattle.std.proofs.lemmas.Option.{none-some, same_Some}
 use Rattle.grammar.specs.Numbers.{after}
 
-pub never : {A B : Type 0} (x : A) → ◌≡◌ {A = Option A} None (Some x) → B
-never x e = absurd (none-some x e)
-
 pub some_moved : {A : Type 0} (P : A → Type 0) (x y : A) → Some x ≡ Some y → P x → P y
 some_moved P x y e h = subst P (same_Some x y e) h
 
@@ -18,11 +15,11 @@ after_mark (m ∷ ms) rest = cond-true (eqb m m) _ _ (eq-eqb m m refl) ∙ after
 first_same : (m c : ℕ) (ms cs rest : List ℕ) (b : Bool) → eqb m c ≡ b → (after ms cs ≡ Some rest → ms ++ rest ≡ cs) →
     cond b (after ms cs) None ≡ Some rest → (m ∷ ms) ++ rest ≡ c ∷ cs
 first_same m c ms cs rest true same more e = let h = eqb-true m c same in let t = more e in cc
-first_same m c ms cs rest false other more e = never rest e
+first_same m c ms cs rest false other more e = absurd (none-some rest e)
 
 pub mark_before : (mark text rest : List ℕ) → after mark text ≡ Some rest → mark ++ rest ≡ text
 mark_before [] text rest e = let same : text ≡ rest = cc in sym same
-mark_before (m ∷ ms) [] rest e = never rest e
+mark_before (m ∷ ms) [] rest e = absurd (none-some rest e)
 mark_before (m ∷ ms) (c ∷ cs) rest e = first_same m c ms cs rest (eqb m c) refl (mark_before ms cs rest) e
 
 after_none : (mark text : List ℕ) (o : Option (List ℕ)) → after mark text ≡ o → ((rest : List ℕ) → text ≡ mark ++ rest → ⊥) → None ≡ o

@@ -1,8 +1,9 @@
 -- A reader takes from the front of a text just what a writer writes.
 use Rattle.std.proofs.Common.{◌≡◌, ℕ, List, [], ◌∷◌, ◌++◌, Some, None, Option, refl, ap, ◌∙◌}
+use Rattle.std.proofs.lemmas.Option.{none-some}
 use Rattle.grammar.specs.Options.{and_then}
 use Rattle.grammar.specs.Numbers.{after}
-use Rattle.grammar.proofs.Marks.{never, mark_before}
+use Rattle.grammar.proofs.Marks.{mark_before}
 
 -- a number ends where the text ends or at a blank
 abbrev pub Ends : List ℕ → Type 0
@@ -20,7 +21,7 @@ pub record Reads {A : Type 0} (read : List ℕ → Option (A × List ℕ)) (writ
 module _ {A : Type 0} (read : List ℕ → Option (A × List ℕ)) (written : A → List ℕ) (Within : A → Type 0) (reads : Reads read written Within) where
   blank_sound : (text : List ℕ) (p : A × List ℕ) (o : Option (List ℕ)) → after (32 ∷ []) text ≡ o → and_then o read ≡ Some p →
       Found (λ a. 32 ∷ written a) Within text p
-  blank_sound text p None e h = never p h
+  blank_sound text p None e h = absurd (none-some p h)
   blank_sound text p (Some more) e h =
       let s = reads.sound more p h in (ap (λ cs. 32 ∷ cs) s.0 ∙ mark_before (32 ∷ []) text more e, s.1, s.2)
 

@@ -22,7 +22,7 @@ abbrev pub filled : Option (Bor (List ℕ)) → List ℕ → Option (List ℕ ×
 filled None ns = None
 filled (Some rest) ns = Some (ns, rest.now)
 
--- the numbers after each command word
+-- ---- the numbers after each command word
 
 abbrev pub edge_of : List ℕ × List ℕ → Option Request
 edge_of p =

@@ -1,14 +1,12 @@
 // The number at the front of a text, digit by digit: `parse` would take a plus sign and spare zeros.
 ghost use Rattle.std.specs.Prelude.{◌≡◌};
-ghost use Rattle.grammar.specs.Numbers.{digit as digit_of, with_digit, digits_on, natural_front};
-ghost use Rattle.grammar.specs.Numbers.{natural_after, integer_after};
-ghost use Rattle.grammar.specs.Numbers.{positive as positive_of, negative as negative_of, integer_front, after as after_mark};
+ghost use Rattle.grammar.specs.Numbers.{after, digit, digits_on, integer_after, integer_front, natural_after, natural_front, negative, positive, with_digit};
 ghost use Rattle.grammar.specs.Options.{held};
 ghost use Rattle.std.specs.Option.{option_map};
 
 // The value of a digit.
 fn digit(byte: u8) -> Option<u32>
-    ensures { result ≡ digit_of byte }
+    ensures { result ≡ digit byte }
 {
     char::from(byte).to_digit(10)
 }
@@ -49,14 +47,14 @@ fn natural_front(text: &[u8]) -> Option<(u32, &[u8])>
 
 // The number of this size, if it is an `i32`.
 fn positive(size: u32) -> Option<i32>
-    ensures { result ≡ positive_of size }
+    ensures { result ≡ positive size }
 {
     i32::try_from(size).ok()
 }
 
 // The negative number of this size, if it is an `i32`; 0 has none.
 fn negative(size: u32) -> Option<i32>
-    ensures { result ≡ negative_of size }
+    ensures { result ≡ negative size }
 {
     if size == 0 {
         return None;
@@ -66,7 +64,7 @@ fn negative(size: u32) -> Option<i32>
 
 // The text after a mark that it begins with: `strip_prefix` in one equation, which the readers are proved by.
 pub(crate) fn after<'a>(mark: &[u8], text: &'a [u8]) -> Option<&'a [u8]>
-    ensures { option_map (λ x. x.now) result ≡ after_mark mark.now text.now }
+    ensures { option_map (λ x. x.now) result ≡ after mark.now text.now }
 {
     text.strip_prefix(mark)
 }

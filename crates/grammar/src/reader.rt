@@ -1,6 +1,6 @@
 // The call of a line.
 ghost use Rattle.std.specs.Prelude.{◌≡◌, Some};
-ghost use Rattle.grammar.specs.Reading.{edge_in, row_in, claim_in, void_in, alone as alone_in, bare_call, request_in};
+ghost use Rattle.grammar.specs.Reading.{edge_in, row_in, claim_in, void_in, alone, bare_call, request_in};
 ghost use Rattle.grammar.specs.Room.{Blank};
 ghost use Rattle.grammar.specs.Spelling.{Spells};
 ghost use Rattle.history.specs.Calls.{Request, request};
@@ -89,7 +89,7 @@ fn void<'a>(text: &[u8], tables: &'a mut Tables) -> Option<Call<'a>>
 
 // A call without numbers.
 fn alone<'a>(call: Call<'a>, text: &[u8]) -> Option<Call<'a>>
-    ensures { option_map request result ≡ alone_in (request call.entry) text.now }
+    ensures { option_map request result ≡ alone (request call.entry) text.now }
 {
     text.is_empty().then_some(call)
 }
