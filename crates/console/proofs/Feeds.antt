@@ -24,7 +24,7 @@ lines_more (b ∷ line) (c ∷ cs) h = lines_by (b ∷ line) cs c (eqb c 10) (li
 pub lines_next : (text : List ℕ) → 1 ≤ length text → lines text ≡ first_line text ∷ lines (after_line text)
 lines_next text h = lines_more [] text (omega arith)
 
--- where the first feed stands
+-- ---- where the first feed stands
 
 abbrev pub is_feed : ℕ → Bool
 is_feed c = eqb c 10

@@ -1,5 +1,5 @@
 -- The replies of a text render a history that keeps the rules.
-use Rattle.std.proofs.Common.{◌≡◌, ℕ, ◌⊎◌, List, [], ◌∷◌, ◌++◌, length, take, Some, None, Option, sym, refl, ap, ◌∙◌, subst, subst₂, inl, inr, append_assoc, append-nil, arith}
+use Rattle.std.proofs.Common.{◌≡◌, ℕ, ◌⊎◌, List, [], ◌∷◌, ◌++◌, length, take, Some, None, Option, sym, refl, ap, ◌∙◌, subst, subst₂, inl, inr, append_assoc, append-nil}
 use Rattle.std.proofs.Math.Seq.{take-append_seam}
 use Rattle.price.specs.Tariffs.{by_cycles, one_read}
 use Rattle.price.specs.CyclesLaws.{cycles_laws}
@@ -23,7 +23,7 @@ spells_or_not text = by (request_in text) refl
   where
     by : (o : Option Request) → request_in text ≡ o → ((q : Request) × Spells q text) ⊎ ((q : Request) → Spells q text → ⊥)
     by (Some q) is = inl (q, request_sound text q is)
-    by None is = inr (λ q spells. let all = request_complete text q spells in let z : ◌≡◌ {A = ℕ} 0 1 = cc in omega arith)
+    by None is = inr (λ q spells. cc (request_complete text q spells))
 
 -- the calls of the lines, and where they lead
 record Follows (past : History) (texts : List (List ℕ)) (bytes : List ℕ) (held : Contents) : Type 0 where

@@ -28,7 +28,7 @@ said (Ok Agreed) = agreed
 said (Ok (Told report)) = told (shown report)
 said (Err refusal) = refused refusal
 
--- the result of a call, as an answer
+-- ---- the result of a call, as an answer
 
 abbrev pub numbered : Result ℕ Refusal → Said
 numbered (Ok n) = number n
