@@ -8,7 +8,7 @@ use std::io::{Read, Write};
 // What lies beyond is not read.
 const MAX_INPUT: u64 = 65_536;
 
-fn run(rt: &HostRuntime) -> anyhow::Result<()> {
+fn main(rt: HostRuntime) -> anyhow::Result<()> {
     let heap = rt.alloc();
     let mut input = Vec::new(heap);
     rt.stdin().take(MAX_INPUT).read_to_end(&mut input)?;
@@ -16,8 +16,4 @@ fn run(rt: &HostRuntime) -> anyhow::Result<()> {
     let replies = session(heap, &mut case, &input)?;
     rt.stdout().write_all(&replies)?;
     Ok(())
-}
-
-fn main(rt: HostRuntime) -> anyhow::Result<()> {
-    run(&rt)
 }
