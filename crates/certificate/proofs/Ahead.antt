@@ -1,5 +1,5 @@
 -- What lies ahead of the judge in the list: the records of the tree that are left.
-use Rattle.std.proofs.Common.{◌≡◌, ℕ, zero as none, suc, ◌+◌, ◌*◌, ◌<◌, ◌≤◌, Bool, List, [], ◌∷◌, ◌++◌, length, ℤ, pos, nat_abs, Some, None, Ok, Err, sym, refl, ap, ◌∙◌, subst, subst₂, append_assoc, arith, length-append}
+use Rattle.std.proofs.Common.{◌≡◌, ℕ, zero, suc, ◌+◌, ◌*◌, ◌<◌, ◌≤◌, Bool, List, [], ◌∷◌, ◌++◌, length, ℤ, pos, nat_abs, Some, None, Ok, Err, sym, refl, ap, ◌∙◌, subst, subst₂, append_assoc, arith, length-append}
 use Rattle.std.proofs.lemmas.List.{append-nil}
 use Rattle.std.proofs.lemmas.Option.{none-some, same_Some}
 use Rattle.price.specs.Pairs.{Pair}
@@ -37,11 +37,11 @@ module _ (nodes rows : ℕ) where
   -- a tree ahead, and then what is ahead behind it
   ahead : (t : Tree) (k : ℕ) (ts : List Branch) (rs : List TreeRecord) (rest : List ℤ) → Fits k nodes (rows + length ts) t → Bounded t → length ts + k ≤ 12 →
       Ahead (onward ts) rs rest → Ahead ts (records t ++ rs) (spelled t ++ rest)
-  ahead (leaf d ps ms) none ts rs rest f b h then =
+  ahead (leaf d ps ms) zero ts rs rest f b h then =
       (rest, refl, record { scale = b.0; node_pairs = f.0; row_pairs = f.1; potentials = b.1; multipliers = b.2 }, then)
   ahead (leaf d ps ms) (suc k) ts rs rest f b h then =
       (rest, refl, record { scale = b.0; node_pairs = f.0; row_pairs = f.1; potentials = b.1; multipliers = b.2 }, then)
-  ahead (split e m s t) none ts rs rest f b h then = absurd f
+  ahead (split e m s t) zero ts rs rest f b h then = absurd f
   ahead (split e m s t) (suc k) ts rs rest f b h then =
       let low : Branch = first_of (nat_abs e) (nat_abs m) in
       let high : Branch = second_of (nat_abs e) (nat_abs m) in

@@ -1,5 +1,5 @@
 -- A tree in range can be judged.
-use Rattle.std.proofs.Common.{◌≡◌, ℕ, zero as none, suc, ◌+◌, ◌≤◌, Bool, true, false, List, [], ◌∷◌, ◌++◌, length, ℤ, pos, negsuc, nat_abs, ◌≤ℤ◌, Ok, Err, sym, refl, ◌∙◌, arith}
+use Rattle.std.proofs.Common.{◌≡◌, ℕ, zero, suc, ◌+◌, ◌≤◌, Bool, true, false, List, [], ◌∷◌, ◌++◌, length, ℤ, pos, negsuc, nat_abs, ◌≤ℤ◌, Ok, Err, sym, refl, ◌∙◌, arith}
 use borrow.Author.Differences.{ints}
 use lib.Signed.{le_z}
 use Rattle.std.proofs.lemmas.Bool.{and_parts}
@@ -26,7 +26,7 @@ parts p bs cs e = neither (range_answer p bs) (range_answer (p + length bs) cs) 
 
 small : (p : ℕ) (xs : List ℤ) → range_answer p (near xs) ≡ Ok tt → Small xs
 small p [] e k = (omega (arith, ints), omega (arith, ints))
-small p (x ∷ xs) e none = within_is 67108864 x (head p (in_range 67108864 x) (near xs) e).0
+small p (x ∷ xs) e zero = within_is 67108864 x (head p (in_range 67108864 x) (near xs) e).0
 small p (x ∷ xs) e (suc k) = small (p + 1) xs (head p (in_range 67108864 x) (near xs) e).1 k
 
 pub limited : (high z : ℤ) (n : ℕ) → high ≤ℤ pos n → inside (pos 0) high z ≡ true → nat_abs z ≤ n

@@ -1,5 +1,5 @@
 -- What the first that fails means.
-use Rattle.std.proofs.Common.{◌≡◌, ℕ, zero as none, suc, ◌+◌, ◌<◌, Bool, true, false, not, T, ◌⊎◌, List, [], ◌∷◌, length, get_or, Ok, Err, sym, refl, ap, ◌∙◌, subst, inl, inr, arith}
+use Rattle.std.proofs.Common.{◌≡◌, ℕ, zero, suc, ◌+◌, ◌<◌, Bool, true, false, not, T, ◌⊎◌, List, [], ◌∷◌, length, get_or, Ok, Err, sym, refl, ap, ◌∙◌, subst, inl, inr, arith}
 use Rattle.price.specs.Questions.{ask}
 use Rattle.price.specs.declared.refusals.Refusal.{Refusal}
 use Rattle.certificate.specs.Judged.{EachPasses, LowestFailing}
@@ -36,7 +36,7 @@ module _ {A : Type 0} (ok : ℕ → A → Bool) (refusal : ℕ → Refusal) (d :
       here = omega arith
 
       passed : T (ok n x) → (i m : ℕ) → ((j : ℕ) → j < m → Passes_at (n + 1) j xs) → i < suc m → Passes_at n i (x ∷ xs)
-      passed t none m all h = subst (λ (j : ℕ). T (ok j x)) here t
+      passed t zero m all h = subst (λ (j : ℕ). T (ok j x)) here t
       passed t (suc i) m all h = subst (λ (j : ℕ). T (ok j (get_or xs i d))) (further n i) (all i (omega arith))
 
       onward : T (ok n x) → {a : Answer} → Found (n + 1) xs a → Found n (x ∷ xs) a

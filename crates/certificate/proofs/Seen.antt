@@ -1,5 +1,5 @@
 -- The record that a tree's list begins with.
-use Rattle.std.proofs.Common.{◌≡◌, ℕ, zero as none, suc, ◌+◌, ◌-◌, ◌*◌, ◌<◌, List, ◌∷◌, ◌++◌, length, ℤ, pos, Some, None, Option, sym, refl, ap, ◌∙◌, subst, append_assoc, arith, length-append}
+use Rattle.std.proofs.Common.{◌≡◌, ℕ, zero, suc, ◌+◌, ◌-◌, ◌*◌, ◌<◌, List, ◌∷◌, ◌++◌, length, ℤ, pos, Some, None, Option, sym, refl, ap, ◌∙◌, subst, append_assoc, arith, length-append}
 use Rattle.std.proofs.lemmas.Option.{none-some, same_Some}
 use Rattle.certificate.specs.declared.reading.Record.{Record}
 use Rattle.certificate.specs.Held.{held, long}
@@ -40,9 +40,9 @@ module _ (n r : ℕ) where
       )
 
   whole_seen : (k : ℕ) (t : Tree) (ys xs : List ℤ) → Fits k n r t → spelled t ++ ys ≡ xs → (w : TreeRecord × List ℤ) → first_record n r xs ≡ Some w → Whole k t ys xs w
-  whole_seen none (leaf d ps ms) ys xs f e w h = at_leaf none d ps ms ys xs f.0 f.1 e w h
+  whole_seen zero (leaf d ps ms) ys xs f e w h = at_leaf zero d ps ms ys xs f.0 f.1 e w h
   whole_seen (suc k) (leaf d ps ms) ys xs f e w h = at_leaf (suc k) d ps ms ys xs f.0 f.1 e w h
-  whole_seen none (split a m s t) ys xs f e w h = absurd f
+  whole_seen zero (split a m s t) ys xs f e w h = absurd f
   whole_seen (suc k) (split a m s t) ys xs f e w h =
       let l : k ≡ suc k - 1 = omega arith in
       subst (Whole (suc k) (split a m s t) ys xs) (same_Some (split_record a m, (spelled s ++ spelled t) ++ ys) w (ap (first_record n r) e ∙ h)) (
@@ -68,9 +68,9 @@ module _ (n r : ℕ) where
     always h = go k t f e
       where
         go : (k : ℕ) (t : Tree) → Fits k n r t → spelled t ++ ys ≡ xs → ⊥
-        go none (leaf d ps ms) f e = none-some (leaf_record d ps ms, ys) (h ∙ leaf_first d ps ms ys xs f.0 f.1 e)
+        go zero (leaf d ps ms) f e = none-some (leaf_record d ps ms, ys) (h ∙ leaf_first d ps ms ys xs f.0 f.1 e)
         go (suc k) (leaf d ps ms) f e = none-some (leaf_record d ps ms, ys) (h ∙ leaf_first d ps ms ys xs f.0 f.1 e)
-        go none (split a m s t) f e = f
+        go zero (split a m s t) f e = f
         go (suc k) (split a m s t) f e = none-some (split_record a m, (spelled s ++ spelled t) ++ ys) (h ∙ sym (ap (first_record n r) e))
 
 -- the shape under a split

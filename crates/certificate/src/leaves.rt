@@ -2,7 +2,7 @@
 ghost use Rattle.std.specs.Prelude.{◌≡◌, ◌+◌, ◌<◌, length};
 ghost use Rattle.certificate.specs.Columns.{charged, entries};
 ghost use Rattle.certificate.specs.Held.{leaf_held, lines_of};
-ghost use Rattle.certificate.specs.Lines.{allowance as allowance', bound as bound', potential};
+ghost use Rattle.certificate.specs.Lines.{allowance, bound, potential};
 ghost use Rattle.price.specs.Pairs.{◌⊕◌, ◌⊖◌};
 ghost use Rattle.price.specs.Prices.{pair};
 ghost use Rattle.task.specs.Graph.{edge_at};
@@ -25,7 +25,7 @@ impl Leaf<'_> {
     // What an edge may cost.
     pub(crate) fn allowance(&self, i: usize) -> Price
         requires { i < length self.now.claim.task.edges.now }
-        ensures { pair result ≡ allowance' (lines_of self.now) (leaf_held self.now) i (edge_at self.now.claim.task.edges.now i) }
+        ensures { pair result ≡ allowance (lines_of self.now) (leaf_held self.now) i (edge_at self.now.claim.task.edges.now i) }
     {
         let edge = self.claim.task.edges[i];
         let column = Column::Edge {
@@ -37,7 +37,7 @@ impl Leaf<'_> {
 
     // What a whole run may cost.
     pub(crate) fn bound(&self) -> Price
-        ensures { pair result ≡ bound' self.now.claim.task.start self.now.claim.task.end (lines_of self.now) (leaf_held self.now) }
+        ensures { pair result ≡ bound self.now.claim.task.start self.now.claim.task.end (lines_of self.now) (leaf_held self.now) }
     {
         self.level(self.claim.task.start, self.claim.task.end, Column::Limit)
     }

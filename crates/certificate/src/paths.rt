@@ -1,6 +1,6 @@
 // How the path table goes from record to record.
 ghost use Rattle.std.specs.Prelude.{◌≡◌, ◌<◌, ◌≤◌, [], ◌∷◌, ◌++◌, length, unsigned_abs};
-ghost use Rattle.certificate.specs.Splits.{first_of, onward as onward', branches_of};
+ghost use Rattle.certificate.specs.Splits.{branches_of, first_of, onward};
 
 use crate::branches::{Branch, Path, Turns};
 use arrayvec::ArrayVec;
@@ -44,7 +44,7 @@ impl Path {
 
     // Behind a leaf, the last split in its first tree goes on to its second; those below it are done.
     pub(crate) fn onward(&mut self)
-        ensures { branches_of self.new ≡ onward' (branches_of self.old) }
+        ensures { branches_of self.new ≡ onward (branches_of self.old) }
     {
         while let Some(last) = self.branches.pop() {
             if let Branch::AtMost { edge, turns } = last {
