@@ -6,9 +6,9 @@ use Rattle.std.proofs.ByRecursion.{All-push}
 use Rattle.std.proofs.lemmas.Bool.{cases_lt}
 use Rattle.price.specs.Laws.{Laws, cheaper}
 use Rattle.price.specs.Pairs.{Pair, zero, ◌⊕◌, ◌⊖◌, times}
-use Rattle.price.proofs.Orders.{le_refl, within_bound, no_bound}
+use Rattle.price.proofs.Orders.{le_refl, within_bound}
 use Rattle.price.proofs.PairSums.{no_times}
-use Rattle.price.specs.Tests.{is_yes}
+use Rattle.price.specs.Tests.{is_yes, clash}
 use Rattle.task.specs.Graph.{Path}
 use Rattle.task.specs.Places.{prices_along}
 use Rattle.task.specs.Rows.{KeepsAll}
@@ -46,7 +46,7 @@ module _ {le : Pair → Pair → Bool} {unit : Pair} (laws : Laws le unit) (task
   leaf_void : (lines : List Line) (l : Leaf) → l.scale ≡ 0 → Passes le unit task c lines l → AllByRecursion (Holds run) lines → ⊥
   leaf_void lines l z ok holds =
       let nothing : (a : Pair) → times (pos l.scale) a ≡ zero = λ a. (λ i. times (pos (z i)) a) ∙ no_times a in
-      no_bound laws (bound task.start task.end lines l)
+      clash (le zero (bound task.start task.end lines l))
       (subst (λ x. T (le x (bound task.start task.end lines l))) (nothing price) (within lines l ok holds))
       (subst (λ x. T (cheaper le (bound task.start task.end lines l) x)) (nothing (c ⊕ unit)) ok.under)
 
@@ -70,7 +70,7 @@ module _ {le : Pair → Pair → Bool} {unit : Pair} (laws : Laws le unit) (task
   -- D is 0 in every leaf
   tree_void : (edges : ℕ) (t : Tree) (lines : List Line) → AllByRecursion (λ b. T b) (tests edges (pos 0) t) → Leaves t lines → AllByRecursion (Holds run) lines → ⊥
   tree_void edges (leaf d ps ms) lines near! ok holds =
-      let small : nat_abs d ≤ 0 = limited (pos 0) d 0 (omega (arith, ints)) (sym (is_yes (inside (pos 0) (pos 0) d) near!.1.0)) in
+      let small : nat_abs d ≤ 0 = limited (pos 0) d 0 (omega (arith, ints)) (is_yes (inside (pos 0) (pos 0) d) near!.1.0) in
       leaf_void lines (leaf_of d ps ms) (omega arith) ok.0 holds
   tree_void edges (split e m a b) lines near! ok holds =
       let low : List Line = lines ++ (at_most (nat_abs e) (nat_abs m) ∷ []) in

@@ -43,10 +43,6 @@ module _ {le : Pair → Pair → Bool} {unit : Pair} (laws : Laws le unit) where
   pub within_bound : (n : ℕ) (p c bound : Pair) → T (le (times (pos n) p) bound) → T (cheaper le bound (times (pos n) (c ⊕ unit))) → T (le p c)
   within_bound n p c bound h k = (laws.step p c).1 (cheaper_untimes n p (c ⊕ unit) (le_cheaper _ bound _ h k))
 
-  -- and at scale 0 it is absurd
-  pub no_bound : (bound : Pair) → T (le zero bound) → T (cheaper le bound zero) → ⊥
-  no_bound bound h k = clash (le zero bound) h k
-
   pub ranked : (a b : Pair) → T (cheaper le a b) ⊎ ((T (le a b) × T (le b a)) ⊎ T (cheaper le b a))
   ranked a b =
       ⊎_elim (λ back. ⊎_elim (λ on. inr (inl (on, back))) (λ n. inr (inr n)) (by_test (le a b))) inl (by_test (le b a))
@@ -61,5 +57,5 @@ module _ {le : Pair → Pair → Bool} {unit : Pair} (laws : Laws le unit) where
     multiples = le_times;
     sums = le_sum;
     covered = within_bound;
-    empty = no_bound;
+    empty = λ bound. clash (le zero bound);
   }

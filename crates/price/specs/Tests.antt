@@ -2,25 +2,20 @@
 use Rattle.std.specs.Prelude.{◌≡◌, Bool, true, false, not, ◌&&◌, ◌||◌, T, ◌⊎◌, refl}
 use Rattle.std.proofs.Common.{inl, inr}
 
--- a test passes if it cannot fail, and fails if it cannot pass
+-- from the library: a test fails if it cannot pass, and does not do both
+pub use Rattle.std.proofs.Math.Facts.{not_T as fails, T_not as clash}
+
+-- a test passes if it cannot fail
 pub holds : (t : Bool) → (T (not t) → ⊥) → T t
 holds true h = tt
 holds false h = h tt
-
-pub fails : (t : Bool) → (T t → ⊥) → T (not t)
-fails true h = h tt
-fails false h = tt
-
-pub clash : (t : Bool) → T t → T (not t) → ⊥
-clash true h n = n
-clash false h n = h
 
 -- every test passes or fails
 pub by_test : (t : Bool) → T t ⊎ T (not t)
 by_test true = inl tt
 by_test false = inr tt
 
-pub is_yes : (t : Bool) → T t → true ≡ t
+pub is_yes : (t : Bool) → T t → t ≡ true
 is_yes true h = refl
 is_yes false h = absurd h
 
