@@ -1,6 +1,6 @@
 -- Sums and multiples of pairs, part by part.
 use Rattle.std.proofs.Common.{◌≡◌, ℕ, suc, ℤ, pos, ◌+ℤ◌, arith}
-use borrow.Author.Differences.{ints}
+use Rattle.std.proofs.lemmas.Int.{ints}
 use Rattle.price.specs.Pairs.{Pair, zero, ◌⊕◌, ◌⊖◌, times}
 use Rattle.price.specs.Integers.{*ℤ-+ℤ, +ℤ-*ℤ}
 

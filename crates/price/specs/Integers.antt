@@ -1,7 +1,8 @@
 -- Products of whole numbers, which `omega` takes for unknowns: each law hands it the facts already multiplied.
 use Rattle.std.specs.Prelude.{◌≡◌, ℕ, ◌+◌, ◌*◌, ◌≤◌, ℤ, pos, ◌+ℤ◌, ◌*ℤ◌}
 use Rattle.std.proofs.Common.{mul-le-mul_left, mul-le-mul_right, arith, ap}
-use borrow.Author.Differences.{up, down, sum_is_lem, ints}
+use borrow.Author.Differences.{up, down, sum_is_lem}
+use Rattle.std.proofs.lemmas.Int.{ints}
 use Rattle.price.specs.Ranges.{Within}
 
 pub *ℤ-+ℤ : (a x y : ℤ) → a *ℤ (x +ℤ y) ≡ a *ℤ x +ℤ a *ℤ y

@@ -1,5 +1,5 @@
 use Rattle.std.proofs.Common.{◌≡◌, ℤ, ◌||◌, ◌&&◌, Some, int_le, int_lt, arith, rules}
-use borrow.Author.Differences.{ints}
+use Rattle.std.proofs.lemmas.Int.{ints}
 use Rattle.std.specs.Ordering.{int_cmp, is_le, is_some_and, partial_ordering_then}
 use Rattle.price.proofs.by_cycles.CyclesFirstTariff.compare.Goals as goal
 
