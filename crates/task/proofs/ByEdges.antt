@@ -1,6 +1,6 @@
 -- The sum of a row, edge by edge.
 use Rattle.std.proofs.Common.{◌≡◌, ℕ, zero, suc, cond, eqb, List, [], ◌∷◌, get_or, ℤ, pos, ◌+ℤ◌, ◌*ℤ◌, refl, ◌∙◌, add-one, arith}
-use borrow.Author.Differences.{ints}
+use Rattle.std.proofs.lemmas.Int.{ints}
 use Rattle.price.specs.Integers.{*ℤ-+ℤ}
 use Rattle.task.specs.declared.edges.Edge.{Edge}
 use Rattle.task.specs.Turns.{block_turns}

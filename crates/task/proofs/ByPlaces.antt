@@ -1,6 +1,6 @@
 -- The turns of a block, the sum of a row and the price of a run, place by place.
 use Rattle.std.proofs.Common.{◌≡◌, ℕ, zero as none, suc, ◌+◌, ◌<◌, Bool, true, false, cond, eqb, List, [], ◌∷◌, get_or, ℤ, pos, ◌+ℤ◌, ◌*ℤ◌, sym, refl, ap, ◌∙◌, subst, inl, inr, add-zero, add-suc, suc-add, zero-add, arith}
-use borrow.Author.Differences.{ints}
+use Rattle.std.proofs.lemmas.Int.{ints}
 use Rattle.price.specs.Pairs.{zero, ◌⊕◌, times}
 use Rattle.price.specs.Integers.{*ℤ-+ℤ}
 use Rattle.price.proofs.PairSums.{⊕-zero, zero-⊕, ⊕-cross, no_times, one_times, +-times}

@@ -1,6 +1,6 @@
 -- The price of turns, edge by edge.
 use Rattle.std.proofs.Common.{◌≡◌, ℕ, ◌+◌, ◌*◌, ◌^◌, ◌<◌, ◌≤◌, min, List, length, get_or, drop, pos, Ok, Err, Result, sym, ap, ◌∙◌, subst, arith}
-use borrow.Author.Differences.{ints}
+use Rattle.std.proofs.lemmas.Int.{ints}
 use Rattle.price.specs.Pairs.{Pair, ◌⊕◌}
 use Rattle.price.specs.Ranges.{Both}
 use Rattle.price.specs.declared.prices.Price.{Price}

@@ -1,6 +1,6 @@
 -- What the tests of turns say of balance, of the way to the end and of rows.
 use Rattle.std.proofs.Common.{◌≡◌, ℕ, ◌<◌, ◌≤◌, true, false, not, eqb, List, [], ◌∷◌, length, get_or, ℤ, ap, ⊎_elim, arith}
-use borrow.Author.Differences.{ints}
+use Rattle.std.proofs.lemmas.Int.{ints}
 use Rattle.std.specs.List.{AllByRecursion}
 use Rattle.std.proofs.lemmas.List.{get_or_default}
 use Rattle.std.proofs.lemmas.Bool.{both_ways, ne_eqb, ltb-true, lt-ltb, and_parts, and_cases, not-true, not-false, cases_lt}

@@ -1,5 +1,4 @@
-use Rattle.std.proofs.Common.{◌∙◌, ltb, ap, rules}
-use borrow.Author.Tests.{tests}
+use Rattle.std.proofs.Common.{◌∙◌, ltb, ap, rules, tests}
 use Rattle.std.proofs.lemmas.List.{get_or_default}
 use Rattle.std.proofs.lemmas.Iterator.{YieldsList-from_slice}
 use Rattle.std.proofs.lemmas.Iterator.Search.{position_from_yields_List}

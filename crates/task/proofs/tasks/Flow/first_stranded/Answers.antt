@@ -1,5 +1,4 @@
-use Rattle.std.proofs.Common.{ℕ, not, ◌&&◌, ap, ◌∙◌, rules}
-use borrow.Author.Tests.{tests}
+use Rattle.std.proofs.Common.{ℕ, not, ◌&&◌, ap, ◌∙◌, rules, tests}
 use Rattle.std.proofs.lemmas.List.{get_or_default}
 use Rattle.std.proofs.lemmas.Iterator.{YieldsList-from_slice}
 use Rattle.std.proofs.lemmas.Iterator.Consumers.{YieldsList-from_enumerate}
