@@ -1,7 +1,6 @@
 -- A tree in range can be judged.
-use Rattle.std.proofs.Common.{◌≡◌, ℕ, zero, suc, ◌+◌, ◌≤◌, Bool, true, false, List, [], ◌∷◌, ◌++◌, length, ℤ, pos, negsuc, nat_abs, ◌≤ℤ◌, Ok, Err, sym, refl, ◌∙◌, arith}
-use borrow.Author.Differences.{ints}
-use lib.Signed.{le_z}
+use Rattle.std.proofs.Common.{◌≡◌, ℕ, zero, suc, ◌+◌, ◌≤◌, Bool, true, false, List, [], ◌∷◌, ◌++◌, length, ℤ, pos, negsuc, nat_abs, ◌≤ℤ◌, Ok, Err, sym, refl, ◌∙◌, arith, int_le}
+use Rattle.std.proofs.lemmas.Int.{ints}
 use Rattle.std.proofs.lemmas.Bool.{and_parts}
 use Rattle.price.specs.declared.refusals.Refusal.TheVariants.{TreeRange}
 use Rattle.task.specs.Coefficients.{in_range}
@@ -30,8 +29,8 @@ small p (x ∷ xs) e zero = within_is 67108864 x (head p (in_range 67108864 x) (
 small p (x ∷ xs) e (suc k) = small (p + 1) xs (head p (in_range 67108864 x) (near xs) e).1 k
 
 pub limited : (high z : ℤ) (n : ℕ) → high ≤ℤ pos n → inside (pos 0) high z ≡ true → nat_abs z ≤ n
-limited high (pos k) n h e = let t = and_parts (le_z (pos 0) (pos k)) (le_z (pos k) high) e in grind (arith, ints, t)
-limited high (negsuc k) n h e = let t = and_parts (le_z (pos 0) (negsuc k)) (le_z (negsuc k) high) e in grind (arith, ints, t)
+limited high (pos k) n h e = let t = and_parts (int_le (pos 0) (pos k)) (int_le (pos k) high) e in grind (arith, ints, t)
+limited high (negsuc k) n h e = let t = and_parts (int_le (pos 0) (negsuc k)) (int_le (negsuc k) high) e in grind (arith, ints, t)
 
 pub bounded : (edges : ℕ) (top : ℤ) (t : Tree) (p : ℕ) → top ≤ℤ pos 1000 → range_answer p (tests edges top t) ≡ Ok tt → Bounded t
 bounded edges top (leaf d ps ms) p h e =

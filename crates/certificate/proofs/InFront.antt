@@ -5,7 +5,7 @@ use Rattle.certificate.specs.declared.branches.Path.{Path}
 use Rattle.certificate.specs.Lines.{Line, Leaf}
 use Rattle.certificate.specs.Reading.{first_record}
 use Rattle.certificate.specs.Splits as splits
-use Rattle.certificate.specs.Splits.{branch_of, branches_of, lines_at}
+use Rattle.certificate.specs.Splits.{branches_of}
 use Rattle.certificate.specs.Tasks.{Task, Answer}
 use Rattle.certificate.specs.Trees.{TreeRecord}
 use Rattle.certificate.specs.Verdicts.{leaf_answer}

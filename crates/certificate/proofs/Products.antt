@@ -1,6 +1,6 @@
 -- The range of a product of two whole numbers.
 use Rattle.std.proofs.Common.{ℕ, suc, ◌*◌, ◌≤◌, ℤ, pos, negsuc, ◌*ℤ◌, mul-le-mul, arith}
-use borrow.Author.Differences.{ints}
+use Rattle.std.proofs.lemmas.Int.{ints}
 use Rattle.price.specs.Ranges.{Within}
 
 pub product_within : (a b : ℤ) (h k : ℕ) → Within h a → Within k b → Within (h * k) (a *ℤ b)

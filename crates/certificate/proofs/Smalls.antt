@@ -1,7 +1,6 @@
 -- Numbers of a list whose numbers are all in range.
-use Rattle.std.proofs.Common.{◌≡◌, ℕ, zero, suc, true, false, ◌&&◌, List, [], ◌∷◌, get_or, ℤ, pos, neg_ℤ, sym, ◌∙◌, arith}
-use borrow.Author.Differences.{ints}
-use lib.Signed.{le_z}
+use Rattle.std.proofs.Common.{◌≡◌, ℕ, zero, suc, true, false, ◌&&◌, List, [], ◌∷◌, get_or, ℤ, pos, neg_ℤ, sym, ◌∙◌, arith, int_le}
+use Rattle.std.proofs.lemmas.Int.{ints}
 use Rattle.price.specs.Ranges.{Within, Both}
 use Rattle.std.proofs.lemmas.Bool.{false≢true, and_parts}
 use Rattle.std.proofs.lemmas.Bool.Decides.{nat_tests}
@@ -9,7 +8,7 @@ use Rattle.task.specs.Coefficients.{in_range, all_small}
 
 pub within_is : (h : ℕ) (z : ℤ) → in_range h z ≡ true → Within h z
 within_is h z e =
-    let t = and_parts (le_z (neg_ℤ (pos h)) z) (le_z z (pos h)) e in
+    let t = and_parts (int_le (neg_ℤ (pos h)) z) (int_le z (pos h)) e in
     (grind (arith, ints, t), grind (arith, ints, t))
 
 is_within : (h : ℕ) (z : ℤ) → Within h z → in_range h z ≡ true

@@ -1,6 +1,6 @@
 -- A tree whose leaves all pass bounds every run that keeps the rows.
 use Rattle.std.proofs.Common.{◌≡◌, ℕ, ◌<◌, ◌≤◌, Bool, T, List, [], ◌∷◌, ◌++◌, length, pos, nat_abs, sym, ◌∙◌, subst, subst₂, ⊎_elim, arith}
-use borrow.Author.Differences.{ints}
+use Rattle.std.proofs.lemmas.Int.{ints}
 use Rattle.std.specs.List.{AllByRecursion}
 use Rattle.std.proofs.ByRecursion.{All-push}
 use Rattle.std.proofs.lemmas.Bool.{cases_lt}

@@ -1,6 +1,6 @@
 -- Along a path the potentials telescope: D times its price is within the difference of the two ends' potentials and what its places are charged.
 use Rattle.std.proofs.Common.{◌≡◌, ℕ, Bool, T, List, [], ◌∷◌, ℤ, pos, ◌+ℤ◌, sym, refl, ◌∙◌, subst₂, arith}
-use borrow.Author.Differences.{ints}
+use Rattle.std.proofs.lemmas.Int.{ints}
 use Rattle.price.specs.Laws.{Laws}
 use Rattle.price.specs.Pairs.{Pair, zero, ◌⊕◌, ◌⊖◌, times}
 use Rattle.price.proofs.Orders.{le_refl}
