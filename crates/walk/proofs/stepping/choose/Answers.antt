@@ -1,5 +1,4 @@
-use Rattle.std.proofs.Common.{◌≡◌, true, false, Some, ap, ◌∙◌, rules}
-use borrow.Author.Tests.{tests}
+use Rattle.std.proofs.Common.{◌≡◌, true, false, Some, ap, ◌∙◌, rules, tests}
 use Rattle.std.proofs.lemmas.Iterator.{first_from_Range}
 use Rattle.walk.specs.Rule.{spares}
 use Rattle.walk.proofs.Searches.{found_or_last}
