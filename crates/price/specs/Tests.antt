@@ -1,7 +1,6 @@
 -- Tests by what they tell, passed and failed.
 use Rattle.std.specs.Prelude.{◌≡◌, Bool, true, false, not, ◌&&◌, ◌||◌, T, ◌⊎◌, refl}
 use Rattle.std.proofs.Common.{inl, inr}
-
 -- from the library: a test fails if it cannot pass, and does not do both
 pub use Rattle.std.proofs.Math.Facts.{not_T as fails, T_not as clash}
 
