@@ -19,17 +19,16 @@ use Rattle.certificate.specs.Splits.{path_line, branch_of}
 use Rattle.certificate.proofs.Charges.{charge_is}
 
 module _ (es : List task.Edge) where
-  table : List Row → List Branch → List Line
+  abbrev table : List Row → List Branch → List Line
   table rows path = map (case_line es) (map row_of rows) ++ map path_line (map branch_of path)
 
-  pub lines_count : (rows : List Row) (path : List Branch) → length (map (case_line es) (map row_of rows) ++ map path_line (map branch_of path)) ≡ length rows + length path
+  pub lines_count : (rows : List Row) (path : List Branch) → length (table rows path) ≡ length rows + length path
   lines_count [] [] = refl
   lines_count [] (t ∷ ts) = let rest = lines_count [] ts in omega arith
   lines_count (r ∷ rs) ts = let rest = lines_count rs ts in omega arith
 
   column_is : (f : Line → ℤ) (column : Column) → ((r : rows.Row) → f (case_line es r) ≡ row_entry column r) → ((t : splits.Branch) → f (path_line t) ≡ branch_entry column t) →
       (rows : List Row) (path : List Branch) → map f (table rows path) ≡ entries column rows path
-  unfolding table
   column_is f column p q [] [] = refl
   column_is f column p q [] (t ∷ ts) = λ i. q (branch_of t) i ∷ column_is f column p q [] ts i
   column_is f column p q (r ∷ rs) ts = λ i. p (row_of r) i ∷ column_is f column p q rs ts i
@@ -37,14 +36,13 @@ module _ (es : List task.Edge) where
   module _ (l : Leaf) (rows : List Row) (path : List Branch) (from to : ℕ) where
     -- a difference of potentials and a charge
     abbrev level : (Line → ℤ) → Pair
-    level f = potential (leaf_held l) from ⊖ potential (leaf_held l) to ⊕ charge f (map (case_line es) (map row_of rows) ++ map path_line (map branch_of path)) (leaf_held l).multipliers
+    level f = potential (leaf_held l) from ⊖ potential (leaf_held l) to ⊕ charge f (table rows path) (leaf_held l).multipliers
 
     -- the same by the sum of the code
     abbrev by_column : Column → Pair
     by_column column = potential (leaf_held l) from ⊖ potential (leaf_held l) to ⊕ charged (entries column rows path) (leaf_held l).multipliers (length rows + length path)
 
     levels : (f : Line → ℤ) (column : Column) → map f (table rows path) ≡ entries column rows path → level f ≡ by_column column
-    unfolding table
     levels f column e =
         ap (λ s. potential (leaf_held l) from ⊖ potential (leaf_held l) to ⊕ s)
         (charge_is f (table rows path) (entries column rows path) (leaf_held l).multipliers (length rows + length path) e (lines_count rows path))
