@@ -86,19 +86,18 @@ module _ (Opens : Event → Type 0) (h : History) (e : Event) where
 
 -- ---- edges, rows and steps
 
+-- what each event adds comes last
+module _ {A : Type 0} (own : Event → List A) (all : History → List A) (none : all [] ≡ []) (first : (e : Event) (h : History) → all (e ∷ h) ≡ own e ++ all h) where
+  added : (h : History) (e : Event) → all (h ++ (e ∷ [])) ≡ all h ++ own e
+  added [] e = first e [] ∙ ap (λ l. own e ++ l) none ∙ append-nil (own e) ∙ sym (ap (λ l. l ++ own e) none)
+  added (x ∷ h) e =
+      first x (h ++ (e ∷ [])) ∙ ap (λ l. own x ++ l) (added h e) ∙ sym (append_assoc (own x) (all h) (own e)) ∙ sym (ap (λ l. l ++ own e) (first x h))
+
 pub edges_more : (h : History) (e : Event) → edges_of (h ++ (e ∷ [])) ≡ edges_of h ++ cond (accepted e.answer) (edge_by e.call) []
-edges_more [] e = append-nil _
-edges_more (x ∷ h) e =
-    let own : List Edge = cond (accepted x.answer) (edge_by x.call) [] in
-    ap (λ l. own ++ l) (edges_more h e) ∙ sym (append_assoc own (edges_of h) (cond (accepted e.answer) (edge_by e.call) []))
+edges_more = added (λ e. cond (accepted e.answer) (edge_by e.call) []) edges_of refl (λ e h. refl)
 
 pub rows_more : (h : History) (e : Event) → rows_of (h ++ (e ∷ [])) ≡ rows_of h ++ cond (accepted e.answer) (row_by e.call) []
-rows_more [] e = append-nil _
-rows_more (x ∷ h) e =
-    let own : List Row = cond (accepted x.answer) (row_by x.call) [] in
-    ap (λ l. own ++ l) (rows_more h e) ∙ sym (append_assoc own (rows_of h) (cond (accepted e.answer) (row_by e.call) []))
+rows_more = added (λ e. cond (accepted e.answer) (row_by e.call) []) rows_of refl (λ e h. refl)
 
 pub handed_more : (h : History) (e : Event) → handed_out (h ++ (e ∷ [])) ≡ handed_out h ++ step_by e.call e.answer
-handed_more [] e = append-nil _
-handed_more (x ∷ h) e =
-    ap (λ l. step_by x.call x.answer ++ l) (handed_more h e) ∙ sym (append_assoc (step_by x.call x.answer) (handed_out h) (step_by e.call e.answer))
+handed_more = added (λ e. step_by e.call e.answer) handed_out refl (λ e h. refl)
