@@ -26,34 +26,34 @@ spells_or_not text = by (request_in text) refl
     by None is = inr (λ q spells. cc (request_complete text q spells))
 
 -- the calls of the lines, and where they lead
-record Follows (past : History) (texts : List (List ℕ)) (bytes : List ℕ) (held : Contents) : Type 0 where
+record Led (past : History) (texts : List (List ℕ)) (bytes : List ℕ) (held : Contents) : Type 0 where
   calls : History
   renders : Renders texts calls bytes
   reached : judging.Reached by_cycles one_read (past ++ calls) held
 
-first_call : (past : History) (text : List ℕ) (texts : List (List ℕ)) (bytes : List ℕ) (held : Contents) (q : Request) (a : Said) → Spells q text → Follows (with_call past q a) texts bytes held →
-    Follows past (text ∷ texts) (rendered a ++ bytes) held
+first_call : (past : History) (text : List ℕ) (texts : List (List ℕ)) (bytes : List ℕ) (held : Contents) (q : Request) (a : Said) → Spells q text → Led (with_call past q a) texts bytes held →
+    Led past (text ∷ texts) (rendered a ++ bytes) held
 first_call past text texts bytes held q a spells rest = record {
   calls = q gives a ∷ rest.calls;
   renders = a_call text q a spells rest.renders;
   reached = subst (λ h. judging.Reached by_cycles one_read h held) (append_assoc past (q gives a ∷ []) rest.calls) rest.reached;
 }
 
-follows : (held : Contents) (texts : List (List ℕ)) (bytes : List ℕ) (last : Contents) → Replies held texts bytes last →
-    (past : History) → judging.Reached by_cycles one_read past held → Follows past texts bytes last
-follows held [] bytes last (none, same) past r = record {
+led : (held : Contents) (texts : List (List ℕ)) (bytes : List ℕ) (last : Contents) → Replies held texts bytes last →
+    (past : History) → judging.Reached by_cycles one_read past held → Led past texts bytes last
+led held [] bytes last (none, same) past r = record {
   calls = [];
   renders = subst (Renders [] []) (sym none) no_line;
   reached = subst₂ (judging.Reached by_cycles one_read) (sym (append-nil past)) (sym same) r;
 }
-follows held (text ∷ texts) bytes last turn past r = by (spells_or_not text) (follows turn.next texts turn.more last turn.rest)
+led held (text ∷ texts) bytes last turn past r = by (spells_or_not text) (led turn.next texts turn.more last turn.rest)
   where
     by : ((q : Request) × Spells q text) ⊎ ((q : Request) → Spells q text → ⊥) →
-        ((h : History) → judging.Reached by_cycles one_read h turn.next → Follows h texts turn.more last) → Follows past (text ∷ texts) bytes last
+        ((h : History) → judging.Reached by_cycles one_read h turn.next → Led h texts turn.more last) → Led past (text ∷ texts) bytes last
     by (inl (q, spells)) on =
         let did = turn.judged.spelled q spells in
         let rest = on (with_call past q turn.answer) (goes_on by_cycles one_read past held turn.next q turn.answer did.0 did.1 r) in
-        subst (λ l. Follows past (text ∷ texts) l last) (sym turn.joined) (first_call past text texts turn.more last q turn.answer spells rest)
+        subst (λ l. Led past (text ∷ texts) l last) (sym turn.joined) (first_call past text texts turn.more last q turn.answer spells rest)
     by (inr none) on =
         let did = turn.judged.unspelled none in
         let rest = on past (subst (judging.Reached by_cycles one_read past) (sym did.1) r) in
@@ -65,7 +65,7 @@ follows held (text ∷ texts) bytes last turn past r = by (spells_or_not text) (
 
 pub keeps_on : (held : Contents) (texts : List (List ℕ)) (bytes : List ℕ) (last : Contents) → Replies held texts bytes last → KeepsOn held texts bytes last
 keeps_on held texts bytes last replies past r =
-    let f = follows held texts bytes last replies past r in
+    let f = led held texts bytes last replies past r in
     record { calls = f.calls; renders = f.renders; reached = f.reached; rules = kept by_cycles one_read cycles_laws f.reached }
 
 -- the same of a reply at the front of a buffer
