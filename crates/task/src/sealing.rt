@@ -1,5 +1,5 @@
 // The start and the end of a graph.
-ghost use Rattle.std.specs.Prelude.{◌≡◌, ℕ, ◌<◌, ◌≤◌, ◌↔◌, Ok, IfSome};
+ghost use Rattle.std.specs.Prelude.{◌≡◌, ℕ, ◌<◌, ◌≤◌, ◌↔◌, Ok};
 ghost use Rattle.task.specs.EndsAnswer.{astray, ends_answer};
 ghost use Rattle.task.specs.Lowest.{first, FirstFrom, sole};
 ghost use Rattle.task.specs.Sealing.{Ends, EveryEdge, Sealed};
