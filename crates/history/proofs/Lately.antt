@@ -4,9 +4,7 @@ use Rattle.std.specs.List.{AllByRecursion}
 use Rattle.std.proofs.ByRecursion.{All-push}
 use Rattle.history.specs.History.{Event, History, accepted}
 use Rattle.history.specs.Known.{edge_by, row_by, step_by, edges_of, rows_of, handed_out, Withdrawal, Since}
-use Rattle.task.specs.Rows.{Row}
 use Rattle.task.proofs.Joined.{all_front, all_behind}
-use Rattle.task.specs.declared.edges.Edge.{Edge}
 
 -- ---- a list with one more at its end
 
