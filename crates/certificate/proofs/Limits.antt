@@ -84,15 +84,15 @@ difference a b h = go (b -ℤ a) refl
 
 module _ {le : Pair → Pair → Bool} {unit : Pair} (laws : Laws le unit) where
   -- more of what (0, 0) is no dearer than is no cheaper
-  more : (m n : ℤ) (a : Pair) → T (le zero a) → m ≤ℤ n → T (le (times m a) (times n a))
-  more m n a h less =
+  more_of : (m n : ℤ) (a : Pair) → T (le zero a) → m ≤ℤ n → T (le (times m a) (times n a))
+  more_of m n a h less =
       let d = difference m n less in
       subst₂ (λ x y. T (le x y)) (⊕-zero (times m a)) (sym (+-times m (pos d.0) a) ∙ ap (λ x. times x a) (sym d.1))
       (laws.add (times m a) (times m a) zero (times (pos d.0) a) (le_refl laws (times m a)) (zero_le_times laws d.0 a h))
 
   one_row : (relation : Relation) (sum limit : ℤ) (m : Pair) → T (sign_ok le relation m) → Within relation sum limit → T (le (times sum m) (times limit m))
-  one_row Below sum limit m t h = more sum limit m t h
-  one_row AtMost sum limit m t h = more sum limit m t h
+  one_row Below sum limit m t h = more_of sum limit m t h
+  one_row AtMost sum limit m t h = more_of sum limit m t h
   one_row Equal sum limit m t h = subst (λ z. T (le (times sum m) (times z m))) h (le_refl laws (times sum m))
 
   pub all_rows : (run : List ℕ) (lines : List Line) (ms : List Pair) → ((i : ℕ) → i < length lines → T (sign_ok le (get_or lines i no_line).relation (get_or ms i zero))) → AllByRecursion (Holds run) lines →

@@ -23,7 +23,7 @@ use Rattle.certificate.specs.Tasks.{Task}
 use Rattle.certificate.specs.Trees.{Tree, leaf, split}
 use Rattle.certificate.proofs.Bounds.{limited}
 use Rattle.certificate.proofs.Limits.{Holds, rows_hold, at_most_holds, at_least_holds, all_rows}
-use Rattle.certificate.proofs.Walks.{places, walk}
+use Rattle.certificate.proofs.Walks.{places, path_within}
 
 module _ {le : Pair → Pair → Bool} {unit : Pair} (laws : Laws le unit) (task : Task) (c : Pair) (run : List ℕ) (path : Path task.edges task.start task.end run) where
   price : Pair
@@ -39,7 +39,7 @@ module _ {le : Pair → Pair → Bool} {unit : Pair} (laws : Laws le unit) (task
       let ends : Pair = potential l task.start ⊖ potential l task.end in
       let charged : Pair = charge (λ r. places r.of_edge run) lines l.multipliers in
       laws.trans (times (pos l.scale) price) (ends ⊕ charged) (bound task.start task.end lines l)
-      (walk laws task lines l ok.allowances run task.start task.end path)
+      (path_within laws task lines l ok.allowances run task.start task.end path)
       (laws.add ends ends charged (charge (λ r. r.limit) lines l.multipliers) (le_refl laws ends) (all_rows laws run lines l.multipliers ok.signs holds))
 
   -- with D = 0 the bound is no less than (0, 0) and cheaper

@@ -40,14 +40,14 @@ module _ {le : Pair → Pair → Bool} {unit : Pair} (laws : Laws le unit) (task
   charged : List ℕ → Pair
   charged xs = charge (λ r. places r.of_edge xs) lines l.multipliers
 
-  pub walk : (xs : List ℕ) (u v : ℕ) → Path task.edges u v xs →
+  pub path_within : (xs : List ℕ) (u v : ℕ) → Path task.edges u v xs →
       T (le (times (pos l.scale) (prices_along task.edges xs)) (potential l u ⊖ potential l v ⊕ charge (λ r. places r.of_edge xs) lines l.multipliers))
   unfolding charged
-  walk [] u v p =
+  path_within [] u v p =
       subst₂ (λ a b. T (le a b)) (sym (times_zero (pos l.scale)))
       (sym ((λ i. potential l (p i) ⊖ potential l v ⊕ charge_zero lines l.multipliers i) ∙ stays (potential l v)))
       (le_refl laws zero)
-  walk (x ∷ xs) u v p =
+  path_within (x ∷ xs) u v p =
       let e : Edge = edge_at task.edges x in
       let d : ℤ = pos l.scale in
       let here : Pair = charge (λ r. r.of_edge x) lines l.multipliers in
@@ -55,4 +55,4 @@ module _ {le : Pair → Pair → Bool} {unit : Pair} (laws : Laws le unit) (task
       subst₂ (λ a b. T (le a b)) (sym (times-⊕ d (edge_price e) rest))
       (telescope (potential l e.tail) (potential l e.head) (potential l v) here (charged xs)
       ∙ (λ i. potential l (p.1 i) ⊖ potential l v ⊕ sym (charge_add (λ r. r.of_edge x) (λ r. places r.of_edge xs) lines l.multipliers) i))
-      (laws.add (times d (edge_price e)) (allowance lines l x e) (times d rest) (potential l e.head ⊖ potential l v ⊕ charged xs) (ok x p.0) (walk xs e.head v p.2))
+      (laws.add (times d (edge_price e)) (allowance lines l x e) (times d rest) (potential l e.head ⊖ potential l v ⊕ charged xs) (ok x p.0) (path_within xs e.head v p.2))
