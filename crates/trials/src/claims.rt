@@ -35,30 +35,51 @@ fn sealed(heap: Global, lines: &[u8]) -> anyhow::Result<Case> {
     Ok(case)
 }
 
-// A claim of (1, 0) at scale 2 under a tariff; the bound is the potential of the start.
-fn claim_at_scale_two<T: Tariff>(
-    rt: &HostRuntime,
-    name: &str,
-    tariff: &T,
-    (cycles, reads): (i32, i32),
-) -> anyhow::Result<()> {
+// A claim of (1, 0) under a tariff, backed by this tree.
+fn claim<T: Tariff>(rt: &HostRuntime, name: &str, tariff: &T, tree: &[i32]) -> anyhow::Result<()> {
     let mut case = sealed(rt.alloc(), RETRY)?;
     let call = Call::Claim {
         turns: &[1, 2, 1, 1],
-        tree: &[0, 2, cycles, reads, 0, 0, 0, 0, 0, 0, 1, 0],
+        tree,
     };
     tell(rt, name, perform(&mut case, tariff, &call))
 }
 
+// A leaf of scale 2 whose bound, the potential of the start, is this pair.
+fn at_scale_two((cycles, reads): (i32, i32)) -> [i32; 12] {
+    [0, 2, cycles, reads, 0, 0, 0, 0, 0, 0, 1, 0]
+}
+
+// The retry split at 1. In the second leaf, which is to show that twice is too often, the path row has this multiplier.
+fn split_at_one(multiplier: i32) -> [i32; 31] {
+    [
+        1, 2, 1, 0, 1, 0, 0, 0, 0, 0, 0, 0, 0, 0, 0, 1, 0, 0, 0, 3, 0, 0, 0, 0, 0, 0, 0, 1, 0,
+        multiplier, 0,
+    ]
+}
+
 // The bound must be cheaper than 2 × ((1, 0) + unit), which weighs 4 under weight 2, and is (2, 2) cycles-first.
+const BOUNDS: [(&str, (i32, i32)); 5] = [
+    ("bound 3 0 under weight 2", (3, 0)),
+    ("bound 1 1 under weight 2", (1, 1)),
+    ("bound 4 0 under weight 2", (4, 0)),
+    ("bound 2 1 under weight 2", (2, 1)),
+    ("bound 2 0 under weight 2", (2, 0)),
+];
+
 pub(crate) fn show_scales(rt: &HostRuntime) -> anyhow::Result<()> {
     let weighted = Weighted::new(2).map_err(|_| anyhow!("no tariff has this weight"))?;
-    claim_at_scale_two(rt, "bound 3 0 under weight 2", &weighted, (3, 0))?;
-    claim_at_scale_two(rt, "bound 1 1 under weight 2", &weighted, (1, 1))?;
-    claim_at_scale_two(rt, "bound 4 0 under weight 2", &weighted, (4, 0))?;
-    claim_at_scale_two(rt, "bound 2 1 under weight 2", &weighted, (2, 1))?;
-    claim_at_scale_two(rt, "bound 2 0 under weight 2", &weighted, (2, 0))?;
-    claim_at_scale_two(rt, "bound 3 0 cycles-first", &CyclesFirst, (3, 0))
+    for (name, bound) in BOUNDS {
+        claim(rt, name, &weighted, &at_scale_two(bound))?;
+    }
+    claim(rt, "split at 1 under weight 2", &weighted, &split_at_one(2))?;
+    claim(rt, "edge 2 allowed -1", &weighted, &split_at_one(3))?;
+    claim(
+        rt,
+        "bound 3 0 cycles-first",
+        &CyclesFirst,
+        &at_scale_two((3, 0)),
+    )
 }
 
 // A claim of one edge, backed by a tree of 4,096 leaves: the last of a list of calls.
