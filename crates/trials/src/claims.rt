@@ -1,5 +1,6 @@
 // Claims that no session of `maxt` can make: under a weight, and with a tree that is longer than a line.
 use crate::deep::deep_tree;
+use crate::refused::show_refused;
 use anyhow::anyhow;
 use console::session;
 use history::{Answer, Call, perform, play};
@@ -9,17 +10,15 @@ use std::alloc::Global;
 
 // Prints what was answered to a claim.
 fn tell(rt: &HostRuntime, name: &str, answer: Result<Answer, Refusal>) -> anyhow::Result<()> {
+    print!(rt; "{name}: ")?;
     match answer {
         Ok(Answer::Price(price)) => println!(rt;
-            "{name}: certified at {} {}",
+            "certified at {} {}",
             price.cycles(),
             price.reads()
         )?,
-        Err(refusal) => {
-            let (question, first, second) = refusal.numbers();
-            println!(rt; "{name}: refused, {question} {first} {second}")?
-        }
-        _ => println!(rt; "{name}: not a claim's answer")?,
+        Ok(_) => println!(rt; "not a claim's answer")?,
+        Err(refusal) => show_refused(rt, refusal)?,
     }
     Ok(())
 }

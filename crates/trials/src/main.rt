@@ -4,19 +4,18 @@
 mod claims;
 mod deep;
 mod laws;
+mod lists;
 mod prices;
+mod refused;
 mod rooms;
 mod sessions;
 
-fn run(rt: &HostRuntime) -> anyhow::Result<()> {
-    sessions::show_all(rt)?;
-    prices::show_parts(rt)?;
-    prices::show_weights(rt)?;
-    rooms::show_rooms(rt)?;
-    claims::show_scales(rt)?;
-    claims::claim_deep(rt)
-}
-
 fn main(rt: HostRuntime) -> anyhow::Result<()> {
-    run(&rt)
+    sessions::show_all(&rt)?;
+    prices::show_parts(&rt)?;
+    prices::show_weights(&rt)?;
+    rooms::show_rooms(&rt)?;
+    claims::show_scales(&rt)?;
+    claims::claim_deep(&rt)?;
+    lists::play_long(&rt)
 }

@@ -1,5 +1,6 @@
 // Price records and weights at both sides of their limits, which no console line reaches.
-use price::{Price, Refusal, Weighted};
+use crate::refused::show_refused;
+use price::{Price, Weighted};
 
 // The largest part of a price.
 const MOST: i64 = 1 << 52;
@@ -22,13 +23,6 @@ const PARTS: [(i64, i64); 13] = [
 
 const WEIGHTS: [u32; 6] = [0, 1, 254, 255, 256, u32::MAX];
 
-// Prints the question that was failed, and its places.
-fn refused(rt: &HostRuntime, refusal: Refusal) -> anyhow::Result<()> {
-    let (question, first, second) = refusal.numbers();
-    println!(rt; "refused, {question} {first} {second}")?;
-    Ok(())
-}
-
 fn show_part(rt: &HostRuntime, cycles: i64, reads: i64) -> anyhow::Result<()> {
     print!(rt; "price {cycles} {reads}: ")?;
     match Price::new(cycles, reads) {
@@ -36,7 +30,7 @@ fn show_part(rt: &HostRuntime, cycles: i64, reads: i64) -> anyhow::Result<()> {
             println!(rt; "made, {} {}", price.cycles(), price.reads())?;
             Ok(())
         }
-        Err(refusal) => refused(rt, refusal),
+        Err(refusal) => show_refused(rt, refusal),
     }
 }
 
@@ -55,7 +49,7 @@ fn show_weight(rt: &HostRuntime, weight: u32, most: Price, read: Price) -> anyho
             println!(rt; "made, {} and {}", tariff.weigh(most), tariff.weigh(read))?;
             Ok(())
         }
-        Err(refusal) => refused(rt, refusal),
+        Err(refusal) => show_refused(rt, refusal),
     }
 }
 

@@ -1,4 +1,5 @@
 // One line of the console with reply buffers of several lengths, all on one case.
+use crate::refused::show_refused;
 use console::line;
 use judge::Case;
 use std::io::Write;
@@ -11,12 +12,10 @@ fn show_line(
     reply: &mut [u8],
 ) -> anyhow::Result<()> {
     let room = reply.len();
+    print!(rt; "room for {room} bytes: ")?;
     match line(text, case, reply) {
-        Ok(length) => println!(rt; "room for {room} bytes: {length} written")?,
-        Err(refusal) => {
-            let (question, first, second) = refusal.numbers();
-            println!(rt; "room for {room} bytes: refused, {question} {first} {second}")?
-        }
+        Ok(length) => println!(rt; "{length} written")?,
+        Err(refusal) => show_refused(rt, refusal)?,
     }
     rt.stdout().write_all(reply)?;
     println!(rt; "")?;
