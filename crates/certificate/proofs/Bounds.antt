@@ -10,7 +10,7 @@ use Rattle.certificate.specs.Tasks.{Answer}
 use Rattle.certificate.specs.Trees.{Tree, leaf, split, split_record}
 use Rattle.certificate.specs.Verdicts.{before, range_answer}
 use Rattle.certificate.proofs.Firsts.{first_append}
-use Rattle.certificate.proofs.Smalls.{within_is}
+use Rattle.task.proofs.Smalls.{within_is}
 
 first_passes : (p : ℕ) (b : Bool) (bs : List Bool) → range_answer p (b ∷ bs) ≡ Ok tt → (b ≡ true) × (range_answer (p + 1) bs ≡ Ok tt)
 first_passes p true bs e = (refl, e)

@@ -2,11 +2,8 @@
 use Rattle.std.proofs.Common.{◌≡◌, ℕ, ◌+◌, List, [], ◌∷◌, ◌++◌, map, length, ℤ, refl, ap, arith}
 use Rattle.price.specs.Pairs.{Pair, ◌⊕◌, ◌⊖◌}
 use Rattle.task.specs.declared.edges.Edge as task
-use Rattle.task.specs.declared.rows.Row.{Row}
+use Rattle.task.specs.Rows.{Row, coefficient}
 use Rattle.task.specs.Graph.{edge_at}
-use Rattle.task.specs.NewRows.{row_of}
-use Rattle.task.specs.Rows.{coefficient}
-use Rattle.task.specs.Rows as rows
 use Rattle.certificate.specs.declared.cases.Column.{Column}
 use Rattle.certificate.specs.declared.cases.Column.TheVariants.{Edge, Limit}
 use Rattle.certificate.specs.declared.cases.Leaf.{Leaf}
@@ -20,18 +17,18 @@ use Rattle.certificate.proofs.Charges.{charge_is}
 
 module _ (es : List task.Edge) where
   abbrev table : List Row → List Branch → List Line
-  table rows path = map (case_line es) (map row_of rows) ++ map path_line (map branch_of path)
+  table rows path = map (case_line es) rows ++ map path_line (map branch_of path)
 
   pub lines_count : (rows : List Row) (path : List Branch) → length (table rows path) ≡ length rows + length path
   lines_count [] [] = refl
   lines_count [] (t ∷ ts) = let rest = lines_count [] ts in omega arith
   lines_count (r ∷ rs) ts = let rest = lines_count rs ts in omega arith
 
-  column_is : (f : Line → ℤ) (column : Column) → ((r : rows.Row) → f (case_line es r) ≡ row_entry column r) → ((t : splits.Branch) → f (path_line t) ≡ branch_entry column t) →
+  column_is : (f : Line → ℤ) (column : Column) → ((r : Row) → f (case_line es r) ≡ row_entry column r) → ((t : splits.Branch) → f (path_line t) ≡ branch_entry column t) →
       (rows : List Row) (path : List Branch) → map f (table rows path) ≡ entries column rows path
   column_is f column p q [] [] = refl
   column_is f column p q [] (t ∷ ts) = λ i. q (branch_of t) i ∷ column_is f column p q [] ts i
-  column_is f column p q (r ∷ rs) ts = λ i. p (row_of r) i ∷ column_is f column p q rs ts i
+  column_is f column p q (r ∷ rs) ts = λ i. p r i ∷ column_is f column p q rs ts i
 
   module _ (l : Leaf) (rows : List Row) (path : List Branch) (from to : ℕ) where
     -- a difference of potentials and a charge

@@ -1,5 +1,4 @@
 pub mod Products
-pub mod Smalls
 pub mod Entries
 pub mod Onward
 pub mod PathSteps

@@ -14,7 +14,7 @@ use Rattle.certificate.specs.Tasks.{Task, Answer}
 use Rattle.certificate.specs.Trees.{Tree}
 use Rattle.certificate.specs.Verdicts.{list_answer, task_answer}
 use Rattle.certificate.proofs.Meanings.{list_means}
-use Rattle.certificate.proofs.Smalls.{within_is, outside_is}
+use Rattle.task.proofs.Smalls.{within_is, outside_is}
 use Rattle.certificate.proofs.Theorems.{none_dearer, no_run}
 
 module _ (le : Pair → Pair → Bool) (unit : Pair) (task : Task) (c : Pair) (top : ℤ) (xs : List ℤ) where

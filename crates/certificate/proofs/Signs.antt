@@ -6,8 +6,7 @@ use Rattle.task.specs.contracts.rows.Relation as relation
 use Rattle.task.specs.declared.edges.Edge.{Edge}
 use Rattle.task.specs.declared.rows.Relation.{Relation}
 use Rattle.task.specs.declared.rows.Relation.TheVariants.{Below, AtMost, Equal}
-use Rattle.task.specs.declared.rows.Row.{Row}
-use Rattle.task.specs.NewRows.{row_of}
+use Rattle.task.specs.Rows.{Row}
 use Rattle.certificate.specs.declared.branches.Branch.{Branch}
 use Rattle.certificate.specs.declared.branches.Branch.TheVariants as branch
 use Rattle.certificate.specs.Held.{is_equal, equal_at}
@@ -38,7 +37,7 @@ module _ (le : Pair → Pair → Bool) (es : List Edge) (m : Pair) where
   of_relation Equal = refl
 
   pub sign_of : (rows : List Row) (path : List Branch) (i : ℕ) →
-      sign_ok le (get_or (map (case_line es) (map row_of rows) ++ map path_line (map branch_of path)) i no_line).relation m ≡ cond (equal_at rows i) true (le zero m)
+      sign_ok le (get_or (map (case_line es) rows ++ map path_line (map branch_of path)) i no_line).relation m ≡ cond (equal_at rows i) true (le zero m)
   sign_of [] [] i = refl
   sign_of [] (branch.AtMost e n ∷ ts) none = refl
   sign_of [] (branch.MoreThan e n ∷ ts) none = refl

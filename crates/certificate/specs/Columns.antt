@@ -1,8 +1,6 @@
 -- The rows of a leaf as a table with a column for each edge and one for the limits. To compute with.
 use Rattle.std.specs.Prelude.{ℕ, zero as none, suc, List, ◌++◌, map, ℤ, pos, slice_index_or}
 use Rattle.price.specs.Pairs.{Pair, zero, ◌⊕◌, times}
-use Rattle.task.specs.declared.rows.Row as declared
-use Rattle.task.specs.NewRows.{row_of}
 use Rattle.task.specs.Rows.{Row, coefficient}
 use Rattle.certificate.specs.declared.cases.Column.{Column}
 use Rattle.certificate.specs.declared.cases.Column.TheVariants.{Edge, Limit}
@@ -19,8 +17,8 @@ branch_entry (Edge number block) t = (path_line t).of_edge number
 branch_entry Limit t = (path_line t).limit
 
 -- a column from the top: the rows of the task, then those of the path
-abbrev pub entries : Column → List declared.Row → List branches.Branch → List ℤ
-entries column rows path = map (λ r. row_entry column (row_of r)) rows ++ map (λ t. branch_entry column (branch_of t)) path
+abbrev pub entries : Column → List Row → List branches.Branch → List ℤ
+entries column rows path = map (row_entry column) rows ++ map (λ t. branch_entry column (branch_of t)) path
 
 -- the first n entries times their multipliers, added up
 abbrev pub charged : List ℤ → List Pair → ℕ → Pair

@@ -4,7 +4,7 @@ use Rattle.std.specs.Borrow.{Bor}
 use Rattle.price.specs.declared.refusals.Refusal.{Refusal}
 use Rattle.task.specs.declared.rows.Relation.{Relation}
 use Rattle.task.specs.declared.rows.Relation.TheVariants.{Below, AtMost, Equal}
-use Rattle.task.specs.declared.rows.Row.{Row}
+use Rattle.task.specs.Rows.{Row}
 use Rattle.certificate.specs.declared.cases.Leaf.{Leaf}
 use Rattle.certificate.specs.declared.reading.Record.{Record}
 use Rattle.certificate.specs.declared.reading.Record.TheVariants as code
@@ -54,7 +54,7 @@ leaf_held l = record { scale = l.scale; potentials = lines.pairs l.potentials.no
 
 -- the rows of a leaf of the code
 abbrev pub lines_of : Leaf → List lines.Line
-lines_of l = lines_at (task_of l.claim.task) (map branch_of l.path.now)
+lines_of l = lines_at (task_of l.claim.task.now) (map branch_of l.path.now)
 
 -- whether the row of a number wants equality
 abbrev pub is_equal : Relation → Bool

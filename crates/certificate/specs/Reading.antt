@@ -1,5 +1,5 @@
 -- The tree that a list begins with, and the list behind it. To compute with.
-use Rattle.std.specs.Prelude.{ℕ, zero, suc, ◌+◌, ◌*◌, cond, List, [], ◌∷◌, length, take, drop, ℤ, pos, negsuc, Some, None, Option, ◌==◌, nat_le}
+use Rattle.std.specs.Prelude.{ℕ, zero, suc, ◌+◌, ◌*◌, cond, List, [], ◌∷◌, length, take, drop, ℤ, pos, Some, None, Option, ◌==◌, nat_le}
 use Rattle.certificate.specs.Trees.{Tree, leaf, split, TreeRecord, leaf_record, split_record}
 
 -- a leaf after its 0: a scale, a pair for each node and a pair for each row
@@ -18,11 +18,9 @@ split_after (edge ∷ most ∷ xs) = Some (split_record edge most, xs)
 
 -- the record that a list begins with, and the list after it
 abbrev pub first_record : ℕ → ℕ → List ℤ → Option (TreeRecord × List ℤ)
-first_record nodes rows [] = None
 first_record nodes rows (pos zero ∷ xs) = leaf_after nodes rows xs
 first_record nodes rows (pos (suc zero) ∷ xs) = split_after xs
-first_record nodes rows (pos (suc (suc n)) ∷ xs) = None
-first_record nodes rows (negsuc n ∷ xs) = None
+first_record nodes rows other = None
 
 abbrev pub and_then : {A B : Type 0} → Option A → (A → Option B) → Option B
 and_then None f = None

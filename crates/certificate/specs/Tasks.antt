@@ -1,8 +1,7 @@
 -- What is judged: the edges and the rows of a task, its start and its end; and what is answered.
-use Rattle.std.specs.Prelude.{ℕ, List, map, Result}
+use Rattle.std.specs.Prelude.{ℕ, List, Result}
 use Rattle.price.specs.declared.refusals.Refusal.{Refusal}
 use Rattle.task.specs.declared.edges.Edge.{Edge}
-use Rattle.task.specs.NewRows.{row_of}
 use Rattle.task.specs.Rows.{Row}
 use Rattle.task.specs.declared.tasks.Task as declared
 
@@ -18,4 +17,4 @@ pub record Task : Type 0 where
 
 -- what the struct of the code means
 abbrev pub task_of : declared.Task → Task
-task_of t = record { edges = t.edges.now; rows = map row_of t.rows.now; start = t.start; end = t.end }
+task_of t = record { edges = t.edges.now; rows = t.rows.now; start = t.start; end = t.end }

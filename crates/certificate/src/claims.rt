@@ -1,6 +1,5 @@
 // What a tree is to prove.
 ghost use Rattle.std.specs.Prelude.{◌^◌, ◌≤◌, length};
-ghost use Rattle.price.specs.Prices.{pair};
 ghost use Rattle.price.specs.Ranges.{Both};
 
 use price::Price;
@@ -9,8 +8,8 @@ use task::Task;
 // A task that a case can have, and a price that no run of it is to be dearer than.
 #[derive(Clone, Copy)]
 pub(crate) struct Claim<'a> {
-    pub(crate) task: Task<'a>,
-    pub(crate) price: Price,
-    ghost few: { length task.rows.now ≤ 24 },
-    ghost small: { Both (2 ^ 42) (pair price) },
+    pub(crate) task: &'a Task<'a>,
+    pub(crate) price: &'a Price,
+    ghost few: { length task.now.rows.now ≤ 24 },
+    ghost small: { Both (2 ^ 42) price.now },
 }

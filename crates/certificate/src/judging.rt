@@ -4,49 +4,48 @@ ghost use Rattle.std.specs.Prelude.{◌≡◌};
 ghost use Rattle.certificate.specs.Held.{leaf_held, lines_of};
 ghost use Rattle.certificate.specs.Tasks.{task_of};
 ghost use Rattle.certificate.specs.Verdicts.{edges_answer, leaf_answer, signs_answer};
-ghost use Rattle.price.specs.Prices.{pair};
 
 use crate::cases::Leaf;
 use price::{Refusal, Tariff};
 
 impl Leaf<'_> {
-    // Asks the rows in rising order, those of the task first. A labelled loop over their numbers, left with the leaf and the row at fault.
+    // Asks the rows in rising order, those of the task first. A loop over their numbers in a labelled block, which is left with the leaf and the row at fault.
     fn ask_signs<T: Tariff>(&self, tariff: &T) -> Result<(), Refusal>
         ensures { result ≡ signs_answer (T.le tariff.now) (lines_of self.now) (leaf_held self.now) self.now.number }
     {
-        let mut answer = Ok(());
-        'rows: for row in 0..self.rows() {
-            if !self.sign_passes(tariff, row) {
-                answer = Err(Refusal::MultiplierSign {
-                    leaf: self.number,
-                    row,
-                });
-                break 'rows;
+        'rows: {
+            for row in 0..self.rows() {
+                if !self.sign_passes(tariff, row) {
+                    break 'rows Err(Refusal::MultiplierSign {
+                        leaf: self.number,
+                        row,
+                    });
+                }
             }
+            Ok(())
         }
-        answer
     }
 
     // Asks the edges in rising order, in a loop of the same form.
     fn ask_edges<T: Tariff>(&self, tariff: &T) -> Result<(), Refusal>
-        ensures { result ≡ edges_answer (T.le tariff.now) (task_of self.now.claim.task) (lines_of self.now) (leaf_held self.now) self.now.number }
+        ensures { result ≡ edges_answer (T.le tariff.now) (task_of self.now.claim.task.now) (lines_of self.now) (leaf_held self.now) self.now.number }
     {
-        let mut answer = Ok(());
-        'edges: for edge in 0..self.claim.task.edges.len() {
-            if !self.edge_passes(tariff, edge) {
-                answer = Err(Refusal::AllowanceShort {
-                    leaf: self.number,
-                    edge,
-                });
-                break 'edges;
+        'edges: {
+            for edge in 0..self.claim.task.edges.len() {
+                if !self.edge_passes(tariff, edge) {
+                    break 'edges Err(Refusal::AllowanceShort {
+                        leaf: self.number,
+                        edge,
+                    });
+                }
             }
+            Ok(())
         }
-        answer
     }
 
     // The first question of the leaf that fails.
     pub(crate) fn judge<T: Tariff>(&self, tariff: &T) -> Result<(), Refusal>
-        ensures { result ≡ leaf_answer (T.le tariff.now) (T.unit tariff.now) (task_of self.now.claim.task) (pair self.now.claim.price) (lines_of self.now) (leaf_held self.now) self.now.number }
+        ensures { result ≡ leaf_answer (T.le tariff.now) (T.unit tariff.now) (task_of self.now.claim.task.now) self.now.claim.price.now (lines_of self.now) (leaf_held self.now) self.now.number }
     {
         self.ask_signs(tariff)?;
         self.ask_edges(tariff)?;

@@ -1,7 +1,6 @@
 // Prices, and their multiples by the scale of a leaf.
 ghost use Rattle.std.specs.Prelude.{◌≡◌, ◌+◌, ◌^◌, pos, ◌*ℤ◌};
 ghost use Rattle.price.specs.Pairs.{times};
-ghost use Rattle.price.specs.Prices.{pair};
 ghost use Rattle.price.specs.Ranges.{Part, Within};
 ghost use Rattle.task.specs.Turns.{edge_price};
 
@@ -12,7 +11,7 @@ use task::Edge;
 // The price with these parts, which the caller knows to be in range. By `Price::new`, since a public function asks nothing of its caller.
 pub(crate) fn price_of(cycles: i64, reads: i64) -> Price
     requires { (Part cycles) × (Part reads) }
-    ensures { pair result ≡ (cycles, reads) }
+    ensures { result ≡ (cycles, reads) }
 {
     match Price::new(cycles, reads) {
         Ok(price) => price,
@@ -33,14 +32,14 @@ impl Leaf<'_> {
     // Both parts, times the scale.
     pub(crate) fn multiple(&self, cycles: i64, reads: i64) -> Price
         requires { (Within (2 ^ 42 + 1000) cycles) × (Within (2 ^ 42 + 1000) reads) }
-        ensures { pair result ≡ times (pos self.now.scale) (cycles, reads) }
+        ensures { result ≡ times (pos self.now.scale) (cycles, reads) }
     {
         price_of(self.scaled(cycles), self.scaled(reads))
     }
 
     // The price of an edge, times the scale.
     pub(crate) fn scaled_price(&self, edge: &Edge) -> Price
-        ensures { pair result ≡ times (pos self.now.scale) (edge_price edge.now) }
+        ensures { result ≡ times (pos self.now.scale) (edge_price edge.now) }
     {
         self.multiple(i64::from(edge.cycles), i64::from(edge.reads))
     }

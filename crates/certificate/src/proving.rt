@@ -5,7 +5,6 @@ ghost use Rattle.certificate.specs.Soundness.{PriceProved, VoidProved};
 ghost use Rattle.certificate.specs.Tasks.{task_of};
 ghost use Rattle.certificate.specs.Verdicts.{list_answer, price_answer, task_answer, void_answer};
 ghost use Rattle.price.specs.Pairs.{zero};
-ghost use Rattle.price.specs.Prices.{pair};
 ghost use Rattle.task.specs.Coefficients.{in_range};
 
 use crate::claims::Claim;
@@ -23,7 +22,7 @@ const MAX_CLAIMED: i64 = 4_398_046_511_104;
 
 // Can a case have this price?
 fn is_claimable(price: Price) -> bool
-    ensures { result ≡ in_range (2 ^ 42) price.cycles && in_range (2 ^ 42) price.reads }
+    ensures { result ≡ in_range (2 ^ 42) price.0 && in_range (2 ^ 42) price.1 }
 {
     let claimable = -MAX_CLAIMED..=MAX_CLAIMED;
     claimable.contains(&price.cycles()) && claimable.contains(&price.reads())
@@ -37,7 +36,7 @@ fn judge_tree<T: Tariff>(
     list: &[i32],
 ) -> Result<(), Refusal>
     requires { top ≤ℤ pos 1000 }
-    ensures { result ≡ list_answer (T.le tariff.now) (T.unit tariff.now) (task_of claim.entry.task) (pair claim.entry.price) top list.now }
+    ensures { result ≡ list_answer (T.le tariff.now) (T.unit tariff.now) (task_of claim.entry.task.now) claim.entry.price.now top list.now }
 {
     let shape = claim.shape();
     if !is_one_tree(list, shape) {
@@ -55,13 +54,13 @@ fn judge_tree<T: Tariff>(
 // The questions of a task before those of the list.
 fn judge<T: Tariff>(
     tariff: &T,
-    task: Task<'_>,
+    task: &Task<'_>,
     price: Price,
     top: i32,
     list: &[i32],
 ) -> Result<(), Refusal>
     requires { top ≤ℤ pos 1000 }
-    ensures { result ≡ task_answer (T.le tariff.now) (T.unit tariff.now) (task_of task.entry) (pair price) top list.now }
+    ensures { result ≡ task_answer (T.le tariff.now) (T.unit tariff.now) (task_of task.now) price top list.now }
 {
     if task.edges.len() > MAX_EDGES {
         return Err(Refusal::EdgesFull);
@@ -72,28 +71,36 @@ fn judge<T: Tariff>(
     if !is_claimable(price) {
         return Err(Refusal::PriceRange);
     }
-    judge_tree(tariff, Claim { task, price }, top, list)
+    judge_tree(
+        tariff,
+        Claim {
+            task,
+            price: &price,
+        },
+        top,
+        list,
+    )
 }
 
 /// Judges a tree that is to prove that no run that keeps every row is dearer than claimed; D is from 0 to 1,000.
 pub fn prove_price<T: Tariff>(
     tariff: &T,
-    task: Task<'_>,
+    task: &Task<'_>,
     claimed: Price,
     tree: &[i32],
 ) -> Result<(), Refusal>
-    ensures answer { result ≡ price_answer (T.le tariff.now) (T.unit tariff.now) (task_of task.entry) (pair claimed) tree.now }
-    ensures means { Judged (T.le tariff.now) (T.unit tariff.now) (task_of task.entry) (pair claimed) (pos 1000) tree.now result }
-    ensures sound { PriceProved (T.le tariff.now) (task_of task.entry) (pair claimed) result }
+    ensures answer { result ≡ price_answer (T.le tariff.now) (T.unit tariff.now) (task_of task.now) claimed tree.now }
+    ensures means { Judged (T.le tariff.now) (T.unit tariff.now) (task_of task.now) claimed (pos 1000) tree.now result }
+    ensures sound { PriceProved (T.le tariff.now) (task_of task.now) claimed result }
 {
     judge(tariff, task, claimed, MAX_SCALE, tree)
 }
 
 /// Judges a tree that is to prove that no run keeps every row; D is 0.
-pub fn prove_void<T: Tariff>(tariff: &T, task: Task<'_>, tree: &[i32]) -> Result<(), Refusal>
-    ensures answer { result ≡ void_answer (T.le tariff.now) (T.unit tariff.now) (task_of task.entry) tree.now }
-    ensures means { Judged (T.le tariff.now) (T.unit tariff.now) (task_of task.entry) zero (pos 0) tree.now result }
-    ensures sound { VoidProved (task_of task.entry) result }
+pub fn prove_void<T: Tariff>(tariff: &T, task: &Task<'_>, tree: &[i32]) -> Result<(), Refusal>
+    ensures answer { result ≡ void_answer (T.le tariff.now) (T.unit tariff.now) (task_of task.now) tree.now }
+    ensures means { Judged (T.le tariff.now) (T.unit tariff.now) (task_of task.now) zero (pos 0) tree.now result }
+    ensures sound { VoidProved (task_of task.now) result }
 {
     judge(tariff, task, price_of(0, 0), 0, tree)
 }

@@ -15,15 +15,15 @@ pub(crate) struct Shape {
     pub(crate) nodes: usize,
     pub(crate) rows: usize,
     pub(crate) splits: usize,
-    ghost few_nodes: { nodes ≤ 256 },
+    ghost few_nodes: { nodes ≤ 32 },
     ghost few_rows: { rows + splits ≤ 36 },
 }
 
 impl Claim<'_> {
     // The shape of a tree that may prove the claim.
     pub(crate) fn shape(self) -> Shape
-        ensures nodes { result.nodes ≡ node_count self.entry.task.edges.now }
-        ensures rows { result.rows ≡ length self.entry.task.rows.now }
+        ensures nodes { result.nodes ≡ node_count self.entry.task.now.edges.now }
+        ensures rows { result.rows ≡ length self.entry.task.now.rows.now }
         ensures splits { result.splits ≡ 12 }
     {
         Shape {

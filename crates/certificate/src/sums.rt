@@ -8,11 +8,10 @@ ghost use Rattle.certificate.specs.Ready.{Small};
 ghost use Rattle.certificate.specs.Splits.{branch_of};
 ghost use Rattle.price.specs.Pairs.{times, zero};
 ghost use Rattle.price.specs.Ranges.{Both, Within};
-ghost use Rattle.task.specs.NewRows.{row_of};
 
 use crate::branches::Branch;
 use crate::cases::{Column, Leaf};
-use task::{Relation, Row};
+use task::{Node, Relation, Row};
 
 // The number at a place, and 0 past the end.
 fn number(list: &[i32], place: usize) -> i32
@@ -34,14 +33,14 @@ fn pair_at(list: &[i32], i: usize) -> (i64, i64)
 
 // The entry of a row of the task.
 fn row_entry(row: &Row, column: Column) -> i64
-    ensures value { result ≡ row_entry column (row_of row.now) }
+    ensures value { result ≡ row_entry column row.now }
     ensures small { Within 1048577 result }
 {
     match column {
         Column::Edge { block, .. } => i64::from(row.coefficient(block)),
-        Column::Limit => match row.relation {
-            Relation::Below => i64::from(row.k) - 1,
-            Relation::AtMost | Relation::Equal => i64::from(row.k),
+        Column::Limit => match row.relation() {
+            Relation::Below => i64::from(row.k()) - 1,
+            Relation::AtMost | Relation::Equal => i64::from(row.k()),
         },
     }
 }
@@ -82,11 +81,11 @@ fn charge_of(entry: i64, multiplier: (i64, i64)) -> (i64, i64)
 }
 
 impl Leaf<'_> {
-    pub(crate) fn potential(&self, node: u8) -> (i64, i64)
+    pub(crate) fn potential(&self, node: Node) -> (i64, i64)
         ensures value { result ≡ potential (leaf_held self.now) node }
         ensures small { Both 67108864 result }
     {
-        pair_at(self.potentials, usize::from(node))
+        pair_at(self.potentials, node.index())
     }
 
     pub(crate) fn multiplier(&self, row: usize) -> (i64, i64)
@@ -99,15 +98,15 @@ impl Leaf<'_> {
 
     // How many rows there are: those of the task come first, then those of the path.
     pub(crate) fn rows(&self) -> usize
-        ensures { result ≡ length self.now.claim.task.rows.now + length self.now.path.now }
+        ensures { result ≡ length self.now.claim.task.now.rows.now + length self.now.path.now }
     {
         self.claim.task.rows.len() + self.path.len()
     }
 
     // What the rows of the task charge in a column.
     fn charge_of_task(&self, column: Column) -> (i64, i64)
-        ensures value { result ≡ charged (entries column self.now.claim.task.rows.now self.now.path.now) (leaf_held self.now).multipliers (length self.now.claim.task.rows.now) }
-        ensures small { Both (70368811286528 * length self.now.claim.task.rows.now) result }
+        ensures value { result ≡ charged (entries column self.now.claim.task.now.rows.now self.now.path.now) (leaf_held self.now).multipliers (length self.now.claim.task.now.rows.now) }
+        ensures small { Both (70368811286528 * length self.now.claim.task.now.rows.now) result }
     {
         let mut cycles: i64 = 0;
         let mut reads: i64 = 0;
@@ -121,7 +120,7 @@ impl Leaf<'_> {
 
     // What all rows charge in a column: those of the path follow those of the task.
     pub(crate) fn charge(&self, column: Column) -> (i64, i64)
-        ensures value { result ≡ charged (entries column self.now.claim.task.rows.now self.now.path.now) (leaf_held self.now).multipliers (length self.now.claim.task.rows.now + length self.now.path.now) }
+        ensures value { result ≡ charged (entries column self.now.claim.task.now.rows.now self.now.path.now) (leaf_held self.now).multipliers (length self.now.claim.task.now.rows.now + length self.now.path.now) }
         ensures small { Both (70368811286528 * 36) result }
     {
         let rows = self.claim.task.rows.len();

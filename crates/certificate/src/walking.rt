@@ -7,7 +7,6 @@ ghost use Rattle.certificate.specs.Splits.{branches_of, lines_at};
 ghost use Rattle.certificate.specs.Tasks.{task_of};
 ghost use Rattle.certificate.specs.Trees.{Fits, Tree, spelled};
 ghost use Rattle.certificate.specs.Verdicts.{tree_answer};
-ghost use Rattle.price.specs.Prices.{pair};
 
 use crate::branches::Path;
 use crate::cases::Leaf;
@@ -27,8 +26,8 @@ impl<'a> Claim<'a> {
         multipliers: &'a [i32],
     ) -> Leaf<'a>
         requires { (unsigned_abs scale ≤ 1000) × Small potentials.now × Small multipliers.now }
-        ensures of { (task_of result.claim.task ≡ task_of self.entry.task) × (pair result.claim.price ≡ pair self.entry.price) × (result.number ≡ number) }
-        ensures lines { lines_of result ≡ lines_at (task_of self.entry.task) (branches_of path.now) }
+        ensures of { (task_of result.claim.task.now ≡ task_of self.entry.task.now) × (result.claim.price.now ≡ self.entry.price.now) × (result.number ≡ number) }
+        ensures lines { lines_of result ≡ lines_at (task_of self.entry.task.now) (branches_of path.now) }
         ensures held { leaf_held result ≡ leaf_of scale potentials.now multipliers.now }
     {
         Leaf {
@@ -50,7 +49,7 @@ pub(crate) fn judge_list<T: Tariff>(
     list: &[i32],
 ) -> Result<(), Refusal>
     requires { (shape.splits ≡ 12) × Judgeable shape.nodes shape.rows list.now }
-    ensures { (t : Tree) → Fits 12 shape.nodes shape.rows t → spelled t ≡ list.now → result ≡ tree_answer (T.le tariff.now) (T.unit tariff.now) (task_of claim.entry.task) (pair claim.entry.price) t }
+    ensures { (t : Tree) → Fits 12 shape.nodes shape.rows t → spelled t ≡ list.now → result ≡ tree_answer (T.le tariff.now) (T.unit tariff.now) (task_of claim.entry.task.now) claim.entry.price.now t }
 {
     let mut path = Path::new();
     let mut rest = list;

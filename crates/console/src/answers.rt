@@ -1,5 +1,5 @@
 // The reply that tells an answer.
-ghost use Rattle.std.specs.Prelude.{◌≡◌, ◌+◌, ◌≤◌, ◌∷◌, [], ◌++◌, length};
+ghost use Rattle.std.specs.Prelude.{Ok, ◌≡◌, ◌+◌, ◌≤◌, ◌∷◌, [], ◌++◌, length};
 ghost use Rattle.console.specs.Rendering.{rendered};
 ghost use Rattle.grammar.specs.Spelling.{integers};
 ghost use Rattle.history.specs.Answers.{said, told};
@@ -56,7 +56,7 @@ impl Reply {
     // The reply with the cycles and the reads of a price more.
     fn price(self, price: Price) -> Reply
         requires { length self.text.bytes + 39 ≤ 64 }
-        ensures text { result.text.bytes ≡ self.text.bytes ++ integers (price.cycles ∷ price.reads ∷ []) }
+        ensures text { result.text.bytes ≡ self.text.bytes ++ integers (price.0 ∷ price.1 ∷ []) }
         ensures short { length result.text.bytes ≤ length self.text.bytes + 36 }
     {
         self.part(price.cycles()).part(price.reads())
@@ -88,18 +88,30 @@ impl Reply {
         self
     }
 
+    // The reply that tells an answer.
+    fn answer(answer: Answer) -> Reply
+        ensures { result.text.bytes ≡ rendered (said (Ok answer)) }
+    {
+        match answer {
+            Answer::Number(n) => Reply::word("ok").number(n).ended(),
+            Answer::Ends(start, end) => Reply::word("ok")
+                .number(start.index())
+                .number(end.index())
+                .ended(),
+            Answer::Price(price) => Reply::word("ok").price(price).ended(),
+            Answer::Next(edge) => Reply::word("ok").number(edge).ended(),
+            Answer::Done => Reply::word("ok done").ended(),
+            Answer::Agreed => Reply::word("ok").ended(),
+            Answer::Told(report) => Reply::told(report).ended(),
+        }
+    }
+
     /// The reply that tells what a call answered.
     pub(crate) fn of(outcome: Result<Answer, Refusal>) -> Reply
         ensures { result.text.bytes ≡ rendered (said outcome) }
     {
         match outcome {
-            Ok(Answer::Number(n)) => Reply::word("ok").number(n).ended(),
-            Ok(Answer::Ends(start, end)) => Reply::word("ok").number(start).number(end).ended(),
-            Ok(Answer::Price(price)) => Reply::word("ok").price(price).ended(),
-            Ok(Answer::Next(edge)) => Reply::word("ok").number(edge).ended(),
-            Ok(Answer::Done) => Reply::word("ok done").ended(),
-            Ok(Answer::Agreed) => Reply::word("ok").ended(),
-            Ok(Answer::Told(report)) => Reply::told(report).ended(),
+            Ok(answer) => Reply::answer(answer),
             Err(refusal) => {
                 let (question, first, second) = refusal.numbers();
                 Reply::word("no")

@@ -34,12 +34,9 @@ Integer z = (neg_ℤ (pos 2147483648) ≤ℤ z) × (z <ℤ pos 2147483648)
 abbrev pub Within : Request → Type 0
 Within (edge tail head block cycles reads) = AllByRecursion Natural (tail ∷ head ∷ block ∷ cycles ∷ reads ∷ [])
 Within (row relation k coefficients) = AllByRecursion Integer (relation ∷ k ∷ coefficients) × (2 + length coefficients ≤ 512)
-Within seal = Unit {0}
 Within (claim turns tree) = AllByRecursion Natural turns × AllByRecursion Integer tree × (1 + length turns + length tree ≤ 512)
 Within (void tree) = AllByRecursion Integer tree × (length tree ≤ 512)
-Within step = Unit {0}
-Within withdraw = Unit {0}
-Within told = Unit {0}
+Within other = Unit {0}
 
 -- the line is of the form: it is what the request is spelled as
 abbrev pub Spells : Request → List ℕ → Type 0

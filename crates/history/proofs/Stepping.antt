@@ -57,7 +57,7 @@ module _ (le : Pair → Pair → Bool) (es : List Edge) (rows : List Row) (s e :
   -- by its table the case takes what the rule takes
   pub next_is : next_of es e walk ≡ next es claimed e walk.left walk.at
   next_is =
-      let node : walk.at < 256 = omega (arith, at_low es low s (start_low es low s holds.ends.start.is) handed, holds.stands.at_is) in
+      let node : walk.at < 32 = omega (arith, at_low es low s (start_low es low s holds.ends.start.is) handed, holds.stands.at_is) in
       ap (λ last. taken es walk.left walk.at e last) (ap (λ exits. get_or exits walk.at 0) holds.exits_are ∙ (table_tabled es claimed e).all walk.at node)
 
   pub step_says : (r : Option ℕ) → next_of es e walk ≡ r → Stepped es s e claimed handed walk.left walk.at r

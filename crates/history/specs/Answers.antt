@@ -4,7 +4,6 @@ use Rattle.history.specs.declared.calls.Answer.{Answer}
 use Rattle.history.specs.declared.calls.Answer.TheVariants.{Number, Ends, Price, Next, Done, Agreed, Told}
 use Rattle.judge.specs.Reports.{State, shown}
 use Rattle.price.specs.Pairs.{Pair}
-use Rattle.price.specs.Prices.{pair}
 use Rattle.price.specs.declared.refusals.Refusal.{Refusal}
 
 -- an answer, by its numbers
@@ -21,7 +20,7 @@ pub data Said : Type 0 where
 abbrev pub said : Result Answer Refusal → Said
 said (Ok (Number n)) = number n
 said (Ok (Ends start end)) = ends start end
-said (Ok (Price p)) = price (pair p)
+said (Ok (Price p)) = price p
 said (Ok (Next edge)) = next edge
 said (Ok Done) = done
 said (Ok Agreed) = agreed

@@ -3,7 +3,7 @@
 use Rattle.std.specs.Prelude.{◌≡◌, ℕ, Bool, true, false, ◌⊎◌, List, [], ◌∷◌, ◌++◌, Result}
 use Rattle.history.specs.Answers.{Said, number, ends, price, next, done, agreed, told as tells, refused, said}
 use Rattle.judge.specs.Reports.{State}
-use Rattle.history.specs.Calls.{Request, edge, row, seal, claim, void, step, withdraw, told, request}
+use Rattle.history.specs.Calls.{Request, edge, row, seal, claim, step, told, request}
 use Rattle.history.specs.declared.calls.Answer.{Answer}
 use Rattle.history.specs.declared.calls.Call.{Call}
 use Rattle.price.specs.Pairs.{Pair}
@@ -33,14 +33,8 @@ history (c ∷ calls) (a ∷ answers) = request c gives said a ∷ history calls
 
 -- a call is accepted if it passes all its questions, and refused otherwise
 abbrev pub accepted : Said → Bool
-accepted (number n) = true
-accepted (ends start end) = true
-accepted (price p) = true
-accepted (next x) = true
-accepted done = true
-accepted agreed = true
-accepted (tells state) = true
 accepted (refused refusal) = false
+accepted other = true
 
 -- what each call answers where it is accepted
 abbrev pub Answers : Request → Said → Type 0
@@ -48,10 +42,10 @@ Answers (edge tail head block cycles reads) a = (n : ℕ) × (a ≡ number n)
 Answers (row relation k coefficients) a = (n : ℕ) × (a ≡ number n)
 Answers seal a = (start : ℕ) × ((end : ℕ) × (a ≡ ends start end))
 Answers (claim turns tree) a = (p : Pair) × (a ≡ price p)
-Answers (void tree) a = a ≡ agreed
 Answers step a = (a ≡ done) ⊎ ((x : ℕ) × (a ≡ next x))
-Answers withdraw a = a ≡ agreed
 Answers told a = (state : State) × (a ≡ tells state)
+-- an accepted void claim or withdraw
+Answers other a = a ≡ agreed
 
 -- in h, this call got this answer after what is past
 abbrev pub Moment : History → History → Request → Said → Type 0

@@ -1,7 +1,7 @@
 -- What a history says of its case: its edges and rows, whether it is certified or void, and the steps handed out.
 use Rattle.std.specs.Prelude.{◌≡◌, ℕ, suc, ◌-◌, true, cond, List, [], ◌∷◌, ◌++◌, ℤ, Some, None, Option}
-use Rattle.history.specs.Answers.{Said, number, ends, price, next, done, agreed, told as tells, refused}
-use Rattle.history.specs.Calls.{Request, edge, row, seal, claim, void, step, withdraw, told}
+use Rattle.history.specs.Answers.{Said, price, next, agreed}
+use Rattle.history.specs.Calls.{Request, edge, row, claim, void, step, withdraw}
 use Rattle.history.specs.History.{Event, History, ◌gives◌, accepted}
 use Rattle.price.specs.Pairs.{Pair}
 use Rattle.std.specs.List.{AllByRecursion}
@@ -16,13 +16,7 @@ use Rattle.task.specs.declared.rows.Relation.{Relation}
 -- the edge that a call adds where it is accepted
 abbrev pub edge_by : Request → List Edge
 edge_by (edge tail head block cycles reads) = record { tail = tail; head = head; block = block; cycles = cycles; reads = reads } ∷ []
-edge_by (row relation k coefficients) = []
-edge_by seal = []
-edge_by (claim turns tree) = []
-edge_by (void tree) = []
-edge_by step = []
-edge_by withdraw = []
-edge_by told = []
+edge_by other = []
 
 -- blocks beyond the list have coefficient 0; a number that is no relation makes no row
 abbrev pub row_with : Option Relation → ℤ → List ℤ → List Row
@@ -31,14 +25,8 @@ row_with (Some relation) k coefficients = record { relation = relation; k = k; c
 
 -- the row that a call adds where it is accepted
 abbrev pub row_by : Request → List Row
-row_by (edge tail head block cycles reads) = []
 row_by (row relation k coefficients) = row_with (relation_of relation) k coefficients
-row_by seal = []
-row_by (claim turns tree) = []
-row_by (void tree) = []
-row_by step = []
-row_by withdraw = []
-row_by told = []
+row_by other = []
 
 -- the edges of the case: those of its accepted edge calls, in order
 abbrev pub edges_of : History → List Edge
@@ -97,24 +85,12 @@ certified_price k = k.opens.price_said
 
 -- done counts for none
 abbrev pub edge_in : Said → List ℕ
-edge_in (number n) = []
-edge_in (ends start end) = []
-edge_in (price p) = []
 edge_in (next x) = x ∷ []
-edge_in done = []
-edge_in agreed = []
-edge_in (tells state) = []
-edge_in (refused refusal) = []
+edge_in other = []
 
 abbrev pub step_by : Request → Said → List ℕ
-step_by (edge tail head block cycles reads) a = []
-step_by (row relation k coefficients) a = []
-step_by seal a = []
-step_by (claim turns tree) a = []
-step_by (void tree) a = []
 step_by step a = edge_in a
-step_by withdraw a = []
-step_by told a = []
+step_by other a = []
 
 -- the edges that step answered, in order
 abbrev pub handed_out : History → List ℕ

@@ -2,6 +2,7 @@
 
 use judge::Report;
 use price::Price;
+use task::Node;
 
 /// A call, with the numbers and lists handed to it, as it is written; nobody prints or compares one.
 #[derive(Clone, Copy)]
@@ -37,7 +38,7 @@ pub enum Answer {
     /// The number of the new edge or row.
     Number(usize),
     /// The start and the end.
-    Ends(u8, u8),
+    Ends(Node, Node),
     /// The certified price.
     Price(Price),
     /// The next edge of the certified run.

@@ -33,9 +33,10 @@ fn dispatch<T: Tariff>(case: &mut Case, tariff: &T, call: &Call) -> Result<Answe
         Call::Seal => case.seal().map(|(start, end)| Answer::Ends(start, end)),
         Call::Claim { turns, tree } => case.claim(tariff, turns, tree).map(Answer::Price),
         Call::Void { tree } => case.void(tariff, tree).map(|()| Answer::Agreed),
-        Call::Step => case
-            .step()
-            .map(|edge| edge.map_or(Answer::Done, Answer::Next)),
+        Call::Step => case.step().map(|edge| match edge {
+            Some(edge) => Answer::Next(edge),
+            None => Answer::Done,
+        }),
         Call::Withdraw => case.withdraw().map(|()| Answer::Agreed),
         Call::Told => Ok(Answer::Told(case.told())),
     }

@@ -5,11 +5,8 @@ use Rattle.std.proofs.lemmas.Bool.Decides.{nat_tests}
 use Rattle.std.specs.List.{AllByRecursion}
 use Rattle.price.specs.Laws.{Laws}
 use Rattle.price.specs.Pairs.{Pair, zero}
-use Rattle.price.specs.Prices.{pair}
-use Rattle.price.specs.declared.prices.Price.{Price}
 use Rattle.price.specs.declared.refusals.Refusal.{Refusal}
 use Rattle.task.specs.EndsAnswer.{ends_answer}
-use Rattle.task.specs.NewRows.{mapped}
 use Rattle.task.specs.Rows.{Row, Keeps}
 use Rattle.task.specs.Sealing.{Ends}
 use Rattle.task.specs.Sound.{Sound}
@@ -93,11 +90,11 @@ module _ (le : Pair → Pair → Bool) (unit : Pair) (laws : Laws le unit) (es :
       }
 
 -- the turns of a claim that passed are few
-pub few_turns : (le : Pair → Pair → Bool) (unit : Pair) (es : List Edge) (rows : List Row) (s e : ℕ) (ts : List ℕ) (xs : List ℤ) (r : Result Price Refusal) → length es ≤ 64 →
-    mapped pair r ≡ claim_on le unit (task_between es rows s e) ts xs → IfOk r (λ _. Few ts)
+pub few_turns : (le : Pair → Pair → Bool) (unit : Pair) (es : List Edge) (rows : List Row) (s e : ℕ) (ts : List ℕ) (xs : List ℤ) (r : Result Pair Refusal) → length es ≤ 64 →
+    r ≡ claim_on le unit (task_between es rows s e) ts xs → IfOk r (λ _. Few ts)
 few_turns le unit es rows s e ts xs (Ok p) few is =
     let task = task_between es rows s e in
-    let passed = both_passed (turns_answer es rows s e ts) (verdicts.price_answer le unit task (price_of es ts) xs) (price_of es ts) (pair p) (sym is) in
+    let passed = both_passed (turns_answer es rows s e ts) (verdicts.price_answer le unit task (price_of es ts) xs) (price_of es ts) p (sym is) in
     let sound = (exactly_sound es rows s e ts (turns_answer es rows s e ts) (answers es rows s e ts (turns_answer es rows s e ts) refl)).0 passed.0 in
     let each : AllByRecursion (λ t. t ≤ 1048575) ts = All-from_get_or (λ t. t ≤ 1048575) ts 0 (λ i low. sound.few i (omega (arith, sound.sized))) in
     let long : length ts ≤ 64 = omega (arith, sound.sized) in

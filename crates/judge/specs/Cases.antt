@@ -1,10 +1,8 @@
 -- What a case holds.
-use Rattle.std.specs.Prelude.{◌≡◌, ℕ, ◌≤◌, true, List, [], map, sum, Vec, vec_items, vec_len, vec_capacity}
+use Rattle.std.specs.Prelude.{◌≡◌, ℕ, ◌≤◌, true, List, [], sum, Vec, vec_items, vec_len, vec_capacity}
 use Rattle.judge.specs.Stages.{Stage, draft, stage_of, ends_held}
 use Rattle.judge.specs.declared.stages.Stage as declared
 use Rattle.task.specs.declared.edges.Edge.{Edge}
-use Rattle.task.specs.declared.rows.Row as declared_row
-use Rattle.task.specs.NewRows.{row_of}
 use Rattle.task.specs.Rows.{Row}
 
 -- all that a caller can tell of a case
@@ -13,9 +11,9 @@ pub record Contents : Type 0 where
   pub edges : List Edge
   pub rows : List Row
 
-module _ {Y : Type 0} (stage : declared.Stage) (edges : Vec Edge Y) (rows : Vec declared_row.Row Y) (exits left : List ℕ) where
+module _ {Y : Type 0} (stage : declared.Stage) (edges : Vec Edge Y) (rows : Vec Row Y) (exits left : List ℕ) where
   abbrev pub contents : Contents
-  contents = record { stage = stage_of stage exits left; edges = vec_items edges; rows = map row_of (vec_items rows) }
+  contents = record { stage = stage_of stage exits left; edges = vec_items edges; rows = vec_items rows }
 
   -- the lists are within their limits and have room up to them; past the draft, the ends are those of the graph
   pub record IsCase : Type 0 where

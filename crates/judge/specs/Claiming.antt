@@ -49,10 +49,8 @@ pub record Voided (es : List Edge) (rows : List Row) : Type 0 where
 
 -- asked of a sealed case only
 abbrev pub if_sealed : {A : Type 0} → Stage → (ℕ → ℕ → Result A Refusal) → Result A Refusal
-if_sealed draft judged = Err NotSealed
 if_sealed (sealed start end) judged = judged start end
-if_sealed (certified start end price walk) judged = Err NotSealed
-if_sealed (void start end) judged = Err NotSealed
+if_sealed other judged = Err NotSealed
 
 module _ (le : Pair → Pair → Bool) (unit : Pair) where
   -- the turns, then the tree; the answer is the price of the turns

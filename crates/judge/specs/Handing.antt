@@ -22,19 +22,15 @@ walk_on es walk None = walk
 walk_on es walk (Some x) = record { all = walk.all; exits = walk.exits; left = one_less walk.left x; at = head_of es x }
 
 abbrev pub step_in : Stage → List Edge → Result (Option ℕ) Refusal
-step_in draft es = Err NotCertified
-step_in (sealed start end) es = Err NotCertified
 step_in (certified start end price walk) es = Ok (next_of es end walk)
-step_in (void start end) es = Err NotCertified
+step_in other es = Err NotCertified
 
 abbrev pub step_answer : Contents → Result (Option ℕ) Refusal
 step_answer c = step_in c.stage c.edges
 
 abbrev pub when_stepped : Stage → List Edge → Option ℕ → Stage
-when_stepped draft es next = draft
-when_stepped (sealed start end) es next = sealed start end
 when_stepped (certified start end price walk) es next = certified start end price (walk_on es walk next)
-when_stepped (void start end) es next = void start end
+when_stepped other es next = other
 
 -- the walk of a certified case goes on, and a refusal changes nothing
 abbrev pub step_kept : Result (Option ℕ) Refusal → Contents → Contents
@@ -44,10 +40,9 @@ step_kept (Err refusal) c = c
 -- ---- withdraw
 
 abbrev pub withdraw_in : Stage → Result (Unit {0}) Refusal
-withdraw_in draft = Err NothingToWithdraw
-withdraw_in (sealed start end) = Err NothingToWithdraw
 withdraw_in (certified start end price walk) = Ok tt
 withdraw_in (void start end) = Ok tt
+withdraw_in other = Err NothingToWithdraw
 
 abbrev pub withdraw_answer : Contents → Result (Unit {0}) Refusal
 withdraw_answer c = withdraw_in c.stage

@@ -3,7 +3,6 @@ use Rattle.std.specs.Prelude.{ℕ, Bool, true, false, ◌&&◌, List, Ok, Err, R
 use Rattle.judge.specs.declared.stages.Stage as declared
 use Rattle.judge.specs.declared.stages.Stage.TheVariants.{Draft, Sealed, Certified, Void}
 use Rattle.price.specs.Pairs.{Pair}
-use Rattle.price.specs.Prices.{pair}
 use Rattle.price.specs.declared.refusals.Refusal.{Refusal}
 use Rattle.task.specs.EndsAnswer.{ends_answer}
 use Rattle.task.specs.declared.edges.Edge.{Edge}
@@ -30,14 +29,12 @@ pub data Stage : Type 0 where
 abbrev pub stage_of : declared.Stage → List ℕ → List ℕ → Stage
 stage_of Draft exits left = draft
 stage_of (Sealed start end) exits left = sealed start end
-stage_of (Certified start end price all at) exits left = certified start end (pair price) (record { all = all; exits = exits; left = left; at = at })
+stage_of (Certified start end price all at) exits left = certified start end price (record { all = all; exits = exits; left = left; at = at })
 stage_of (Void start end) exits left = void start end
 
 abbrev pub is_draft : Stage → Bool
 is_draft draft = true
-is_draft (sealed start end) = false
-is_draft (certified start end price walk) = false
-is_draft (void start end) = false
+is_draft other = false
 
 -- the answer is this start and this end
 abbrev pub answers_ends : Result (ℕ × ℕ) Refusal → ℕ → ℕ → Bool

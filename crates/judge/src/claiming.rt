@@ -4,26 +4,24 @@ ghost use Rattle.certificate.specs.Tasks.{task_of};
 ghost use Rattle.certificate.specs.Verdicts as verdicts;
 ghost use Rattle.judge.specs.Claiming.{Accepted, Voided, claim_answer, claim_kept, claim_on, task_between, void_answer, void_kept};
 ghost use Rattle.judge.specs.Counts.{Few};
-ghost use Rattle.price.specs.Prices.{pair};
-ghost use Rattle.task.specs.NewRows.{mapped};
 
 use crate::case::Case;
 use crate::counts::{refill, total};
 use crate::stages::Stage;
 use certificate::{prove_price, prove_void};
 use price::{Price, Refusal, Tariff};
-use task::{Flow, Task};
+use task::{Flow, Node, Task};
 use walk::last_exits;
 
 // The turns are sound, and the tree proves their price.
 fn judge_claim<T: Tariff>(
     tariff: &T,
-    task: Task<'_>,
+    task: &Task<'_>,
     turns: &[u32],
     tree: &[i32],
 ) -> Result<Price, Refusal>
-    requires { length task.edges.now ≤ 64 }
-    ensures { mapped pair result ≡ claim_on (T.le tariff.now) (T.unit tariff.now) (task_of task.entry) turns.now tree.now }
+    requires { length task.now.edges.now ≤ 64 }
+    ensures { result ≡ claim_on (T.le tariff.now) (T.unit tariff.now) (task_of task.now) turns.now tree.now }
 {
     task.check_turns(turns)?;
     let claimed = Flow {
@@ -37,7 +35,7 @@ fn judge_claim<T: Tariff>(
 
 impl Case {
     // What the case lends to be judged.
-    fn task(&self, start: u8, end: u8) -> Task<'_>
+    fn task(&self, start: Node, end: Node) -> Task<'_>
         ensures value { task_of result ≡ task_between self.now.edges self.now.rows start end }
         ensures few { length result.edges.now ≤ 64 }
     {
@@ -53,28 +51,28 @@ impl Case {
     fn judge_turns<T: Tariff>(
         &self,
         tariff: &T,
-        start: u8,
-        end: u8,
+        start: Node,
+        end: Node,
         turns: &[u32],
         tree: &[i32],
     ) -> Result<Price, Refusal>
-        ensures answer { mapped pair result ≡ claim_on (T.le tariff.now) (T.unit tariff.now) (task_between self.now.edges self.now.rows start end) turns.now tree.now }
+        ensures answer { result ≡ claim_on (T.le tariff.now) (T.unit tariff.now) (task_between self.now.edges self.now.rows start end) turns.now tree.now }
         ensures few { OnOk result (Few turns.now) }
     {
-        judge_claim(tariff, self.task(start, end), turns, tree)
+        judge_claim(tariff, &self.task(start, end), turns, tree)
     }
 
     // The questions of a void claim on a sealed case.
     fn judge_void<T: Tariff>(
         &self,
         tariff: &T,
-        start: u8,
-        end: u8,
+        start: Node,
+        end: Node,
         tree: &[i32],
     ) -> Result<(), Refusal>
         ensures { result ≡ verdicts.void_answer (T.le tariff.now) (T.unit tariff.now) (task_between self.now.edges self.now.rows start end) tree.now }
     {
-        prove_void(tariff, self.task(start, end), tree)
+        prove_void(tariff, &self.task(start, end), tree)
     }
 
     /// Judges a claim: these turns, backed by this tree. Answers their price, which is then certified:
@@ -85,11 +83,12 @@ impl Case {
         turns: &[u32],
         tree: &[i32],
     ) -> Result<Price, Refusal>
-        ensures answer { mapped pair result ≡ claim_answer (T.le tariff.now) (T.unit tariff.now) self.old turns.now tree.now }
-        ensures kept { self.new ≡ claim_kept (mapped pair result) self.old turns.now }
-        ensures accepted { IfOk result (λ p. Accepted (T.le tariff.now) self.old.edges self.old.rows turns.now (pair p)) }
+        ensures answer { result ≡ claim_answer (T.le tariff.now) (T.unit tariff.now) self.old turns.now tree.now }
+        ensures kept { self.new ≡ claim_kept result self.old turns.now }
+        ensures accepted { IfOk result (λ p. Accepted (T.le tariff.now) self.old.edges self.old.rows turns.now p) }
     {
-        match self.stage {
+        let stage = self.stage;
+        match stage {
             Stage::Sealed { start, end } => {
                 let price = self.judge_turns(tariff, start, end, turns, tree)?;
                 let claimed = Flow {
@@ -117,7 +116,8 @@ impl Case {
         ensures kept { self.new ≡ void_kept result self.old }
         ensures accepted { OnOk result (Voided self.old.edges self.old.rows) }
     {
-        match self.stage {
+        let stage = self.stage;
+        match stage {
             Stage::Sealed { start, end } => {
                 self.judge_void(tariff, start, end, tree)?;
                 self.stage = Stage::Void { start, end };

@@ -4,7 +4,7 @@ ghost use Rattle.task.specs.Graph.{head_of};
 ghost use Rattle.walk.specs.Walks.{one_less};
 
 use arrayvec::ArrayVec;
-use task::{Edge, MAX_EDGES};
+use task::{Edge, MAX_EDGES, Node};
 
 // They lie in the case itself, since no call on a case takes memory.
 pub(crate) type Turns = ArrayVec<u32, MAX_EDGES>;
@@ -36,8 +36,8 @@ pub(crate) fn use_turn(left: &mut Turns, edge: usize)
 }
 
 // The node that the edge enters: 0 past the last edge.
-pub(crate) fn head_of(edges: &[Edge], edge: usize) -> u8
+pub(crate) fn head_of(edges: &[Edge], edge: usize) -> Node
     ensures { result ≡ head_of edges.now edge }
 {
-    edges.get(edge).map_or(0, |edge| edge.head)
+    edges.get(edge).map_or(Node::default(), |edge| edge.head)
 }

@@ -10,7 +10,7 @@ use crate::counts::Turns;
 use crate::stages::Stage;
 use price::Refusal;
 use std::alloc::{AllocError, Global};
-use task::{Edge, MAX_EDGES, MAX_ROWS, NODES, Row, ends, repeats};
+use task::{Edge, MAX_EDGES, MAX_ROWS, NODES, Node, Row, ends, repeats};
 
 impl Case {
     /// An empty draft; refused only for want of memory.
@@ -75,7 +75,7 @@ impl Case {
     }
 
     /// Fixes the graph, and answers its start and its end. They differ, and every edge lies on a path between them.
-    pub fn seal(&mut self) -> Result<(u8, u8), Refusal>
+    pub fn seal(&mut self) -> Result<(Node, Node), Refusal>
         ensures answer { result ≡ seal_answer self.old }
         ensures kept { self.new ≡ seal_kept result self.old }
         ensures means { self.old.stage ≡ draft → Sealed self.old.edges result }

@@ -17,29 +17,17 @@ impl Case {
         ensures answer { result ≡ step_answer self.old }
         ensures kept { self.new ≡ step_kept result self.old }
     {
-        match self.stage {
-            Stage::Certified {
-                start,
-                end,
-                price,
-                all,
-                at,
-            } => {
+        match &mut self.stage {
+            Stage::Certified { end, at, .. } => {
                 let left = Flow {
                     edges: &self.edges,
                     turns: self.left.as_slice(),
                 };
-                let Some(edge) = next_edge(left, &self.exits, at, end) else {
+                let Some(edge) = next_edge(left, &self.exits, *at, *end) else {
                     return Ok(None);
                 };
                 use_turn(&mut self.left, edge);
-                self.stage = Stage::Certified {
-                    start,
-                    end,
-                    price,
-                    all,
-                    at: head_of(&self.edges, edge),
-                };
+                *at = head_of(&self.edges, edge);
                 Ok(Some(edge))
             }
             _ => Err(Refusal::NotCertified),
@@ -51,7 +39,8 @@ impl Case {
         ensures answer { result ≡ withdraw_answer self.old }
         ensures kept { self.new ≡ withdraw_kept self.old }
     {
-        match self.stage {
+        let stage = self.stage;
+        match stage {
             Stage::Certified { start, end, .. } | Stage::Void { start, end } => {
                 self.stage = Stage::Sealed { start, end };
                 Ok(())

@@ -1,5 +1,6 @@
 // How far a case has come.
 use price::Price;
+use task::Node;
 
 /// What a call does depends on the stage.
 #[derive(Clone, Copy, Debug, PartialEq, Eq)]
@@ -8,20 +9,20 @@ pub(crate) enum Stage {
     Draft,
     /// The graph is fixed, between its two ends.
     Sealed {
-        start: u8,
-        end: u8,
+        start: Node,
+        end: Node,
     },
     /// A claim was accepted. Of all its turns those left are yet to be handed out, and the walk stands at a node.
     Certified {
-        start: u8,
-        end: u8,
+        start: Node,
+        end: Node,
         price: Price,
         all: u32,
-        at: u8,
+        at: Node,
     },
     /// A void claim was accepted: no run keeps every row.
     Void {
-        start: u8,
-        end: u8,
+        start: Node,
+        end: Node,
     },
 }

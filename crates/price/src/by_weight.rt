@@ -1,6 +1,5 @@
 // Cycles, with each read counted as a fixed number of them.
 ghost use Rattle.std.specs.Prelude.{◌≡◌, ◌^◌, ◌<◌, ◌≤◌, pos, ◌*ℤ◌, MatchResult};
-ghost use Rattle.price.specs.Prices.{pair};
 ghost use Rattle.price.specs.Ranges.{Within};
 ghost use Rattle.price.specs.Tariffs.{by_weight, one_cycle, weighed};
 ghost use Rattle.price.specs.WeightLaws.{weight_laws};
@@ -32,7 +31,7 @@ impl Weighted {
 
     // The reads, weighed, which stay far inside the type.
     fn weigh_reads(self, p: Price) -> i64
-        ensures value { result ≡ pos self.weight *ℤ p.reads }
+        ensures value { result ≡ pos self.weight *ℤ p.1 }
         ensures small { Within (2 ^ 60) result }
     {
         i64::from(self.weight) * p.reads()
@@ -40,7 +39,7 @@ impl Weighted {
 
     /// What the tariff compares: cycles + weight × reads.
     pub fn weigh(self, p: Price) -> i64
-        ensures { result ≡ weighed self.weight (pair p) }
+        ensures { result ≡ weighed self.weight p }
     {
         p.cycles() + self.weigh_reads(p)
     }

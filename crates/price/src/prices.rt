@@ -1,8 +1,9 @@
 // The price record.
-ghost use Rattle.std.specs.Prelude.{◌≡◌, T, ◌↔◌, MatchResult};
+ghost use Rattle.std.specs.Prelude.{◌≡◌, T, ◌↔◌, IfOk, MatchResult};
 ghost use Rattle.price.specs.Ranges.{Part};
 
 use crate::refusals::Refusal;
+use std::marker::Model;
 
 // The largest part of a price, 2^52; the smallest is its negative.
 const MAX_PART: i64 = 4_503_599_627_370_496;
@@ -12,8 +13,19 @@ const MAX_PART: i64 = 4_503_599_627_370_496;
 pub struct Price {
     cycles: i64,
     reads: i64,
-    ghost cycles_fit: { Part cycles },
-    ghost reads_fit: { Part reads },
+}
+
+impl Model for Price {
+    ghost use Rattle.price.specs.Pairs.{Pair};
+    ghost use Rattle.price.specs.Ranges.{Part};
+
+    ghost Value = { Pair };
+
+    ghost view = { λ p. (p.cycles, p.reads) };
+
+    ghost invariant = { λ p. (Part p.cycles) × (Part p.reads) };
+
+    ghost inverse = { λ a. record { cycles = a.0; reads = a.1 } };
 }
 
 fn is_part(z: i64) -> bool
@@ -25,7 +37,8 @@ fn is_part(z: i64) -> bool
 impl Price {
     /// The price with these parts, refused where one of them is out of range.
     pub fn new(cycles: i64, reads: i64) -> Result<Price, Refusal>
-        ensures { MatchResult result (λ p. (p.cycles ≡ cycles) × (p.reads ≡ reads)) (λ e. (e ≡ Refusal.PriceRange) × (Part cycles → Part reads → ⊥)) }
+        ensures price { MatchResult result (λ p. p ≡ (cycles, reads)) (λ e. (e ≡ Refusal.PriceRange) × (Part cycles → Part reads → ⊥)) }
+        ensures in_range { IfOk result (λ _. (Part cycles) × (Part reads)) }
     {
         if is_part(cycles) && is_part(reads) {
             Ok(Price { cycles, reads })
@@ -37,19 +50,21 @@ impl Price {
     // The price with these parts, which the caller knows to be in range.
     pub(crate) fn of(cycles: i64, reads: i64) -> Price
         requires { (Part cycles) × (Part reads) }
-        ensures { (result.cycles ≡ cycles) × (result.reads ≡ reads) }
+        ensures { result ≡ (cycles, reads) }
     {
         Price { cycles, reads }
     }
 
     pub fn cycles(self) -> i64
-        ensures { result ≡ self.cycles }
+        ensures value { result ≡ self.0 }
+        ensures part { Part result }
     {
         self.cycles
     }
 
     pub fn reads(self) -> i64
-        ensures { result ≡ self.reads }
+        ensures value { result ≡ self.1 }
+        ensures part { Part result }
     {
         self.reads
     }

@@ -3,7 +3,6 @@ ghost use Rattle.std.specs.Prelude.{◌≡◌, Bool};
 ghost use Rattle.price.specs.Follows.{Follows};
 ghost use Rattle.price.specs.Laws.{Laws};
 ghost use Rattle.price.specs.Pairs.{Pair};
-ghost use Rattle.price.specs.Prices.{pair};
 
 use crate::prices::Price;
 
@@ -18,10 +17,10 @@ pub trait Tariff {
 
     /// Whether `a` is no dearer than `b`.
     fn compare(&self, a: Price, b: Price) -> bool
-        ensures { result ≡ le self.now (pair a) (pair b) };
+        ensures { result ≡ le self.now a b };
 
     fn unit(&self) -> Price
-        ensures { pair result ≡ unit self.now };
+        ensures { result ≡ unit self.now };
 
     ghost laws: { (t : Self) → Laws (le t) (unit t) };
 }

@@ -3,7 +3,6 @@ use Rattle.std.proofs.Common.{◌≡◌, ℕ, ◌+◌, ◌*◌, ◌^◌, ◌<◌
 use Rattle.std.proofs.lemmas.Int.{ints}
 use Rattle.price.specs.Pairs.{Pair, ◌⊕◌}
 use Rattle.price.specs.Ranges.{Both}
-use Rattle.price.specs.declared.prices.Price.{Price}
 use Rattle.price.specs.declared.refusals.Refusal.{Refusal}
 use Rattle.price.proofs.PairSums.{parts, ⊕-zero}
 use Rattle.task.specs.declared.edges.Edge.{Edge}
@@ -47,9 +46,9 @@ module _ (es : List Edge) (ts : List ℕ) (x cycles reads : ℕ) (adding : Addin
       let b = adding.reads_small all in
       ((omega (arith, ints), omega (arith, ints)), (omega (arith, ints), omega (arith, ints)))
 
-  small_price : (a : Pair) (r : Result Price Refusal) → Priced a r → Both (2 ^ 42) a → Small r
+  small_price : (a : Pair) (r : Result Pair Refusal) → Priced a r → Both (2 ^ 42) a → Small r
   small_price a (Ok p) is small = subst (Both (2 ^ 42)) (sym is) small
   small_price a (Err e) is small = is.1 ((omega (arith, ints), omega (arith, ints)), (omega (arith, ints), omega (arith, ints)))
 
-  pub priced_small : (r : Result Price Refusal) → Priced (pos cycles, pos reads) r → x ≤ length es → length es ≤ 64 → AllInRange es ts → Small r
+  pub priced_small : (r : Result Pair Refusal) → Priced (pos cycles, pos reads) r → x ≤ length es → length es ≤ 64 → AllInRange es ts → Small r
   priced_small r is low few all = small_price (pos cycles, pos reads) r is (adding_small low few all)

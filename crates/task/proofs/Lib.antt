@@ -7,9 +7,10 @@ pub mod Seals
 pub mod Linear
 pub mod ByPlaces
 mod Padded
-mod Rests
+pub mod Rests
 mod ByEdges
 pub mod Flows
 pub mod Checks
 mod Costs
 pub mod Words
+pub mod Smalls

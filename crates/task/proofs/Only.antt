@@ -1,7 +1,6 @@
 -- The first number that passes a test, and the only one: what a search answers, and what the answer says.
 use Rattle.std.proofs.Common.{◌≡◌, ℕ, ◌+◌, ◌<◌, ◌≤◌, Bool, true, false, cond, ◌&&◌, ltb, Some, None, Option, sym, refl, ap, ◌∙◌, ⊎_elim, arith}
 use Rattle.std.proofs.lemmas.Bool.{both_ways, cases_lt, cases_eq, cases_Bool, lt-ltb, le-ltb, ltb-true, ltb-false, and_parts, and_from, and_left, and_right, cond-true, cond-false}
-use Rattle.std.specs.Option.{MatchOption}
 use Rattle.task.specs.Lowest.{lowest, below, first, sole, FirstFrom}
 use Rattle.task.proofs.Lowest.{lowest_passes, lowest_misses, lowest_le, lowest_is, lowest_none}
 
@@ -97,12 +96,6 @@ module _ (p : ℕ → Bool) (n m : ℕ) (e : m ≡ n) where
   pub found_first : (r : Option ℕ) → FirstFrom p 0 m r → r ≡ first p n
   found_first None none = first_none p n (λ k low. none k (omega arith) (omega arith))
   found_first (Some x) found = first_found p n x (omega (arith, found.1)) found.2 (λ k low. found.3 k (omega arith) low)
-
-  -- where the test is known only below a limit
-  pub found_below : (top : ℕ) → m ≤ top → (r : Option ℕ) →
-      MatchOption r ((k : ℕ) → 0 ≤ k → k < m → k < top → p k ≡ false) (λ i. (0 ≤ i) × (i < m) × (i < top → p i ≡ true) × ((k : ℕ) → 0 ≤ k → k < i → k < top → p k ≡ false)) → r ≡ first p n
-  found_below top le None none = first_none p n (λ k low. none k (omega arith) (omega arith) (omega arith))
-  found_below top le (Some x) found = first_found p n x (omega (arith, found.1)) (found.2 (omega (arith, found.1))) (λ k low. found.3 k (omega arith) low (omega (arith, found.1)))
 
 module _ (p : ℕ → Bool) (n : ℕ) where
   pub found_none : FirstFrom p 0 n None → None ≡ sole p n

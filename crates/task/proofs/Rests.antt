@@ -1,8 +1,13 @@
 -- What is left, from an edge on, of a sum over edges and their turns. The sum ends with the shorter list.
 use Rattle.std.proofs.Common.{◌≡◌, ℕ, zero, suc, ◌+◌, ◌<◌, ◌≤◌, min, List, [], ◌∷◌, length, get_or, drop, sym, ap, ◌∙◌, le_of_suc-le-suc, not-suc-le-zero, add-one, arith}
+use Rattle.std.proofs.lemmas.List.{get_or_default}
 use Rattle.task.specs.declared.edges.Edge.{Edge}
-use Rattle.task.specs.Graph.{edge_at}
+use Rattle.task.specs.Graph.{no_edge, edge_at}
 use Rattle.task.proofs.Linear.{Linear}
+
+-- what `es[x]` gives, and what a loop over edges has at x
+pub edge_read : (es : List Edge) (x : ℕ) (e : Edge) → e ≡ get_or es x e → x < length es → e ≡ edge_at es x
+edge_read es x e is low = is ∙ get_or_default es x e no_edge low
 
 module _ {A : Type 0} {none : A} {add : A → A → A} {gives : Edge → ℕ → A} {total : List Edge → List ℕ → A} (laws : Linear none add gives total) where
   rest : (es : List Edge) (ts : List ℕ) (x : ℕ) → x < length es → x < length ts →

@@ -38,7 +38,7 @@ module _ (es : List Edge) (ts : List ℕ) (side : Side) (before after : List Boo
 
 -- every mark is right, and the goal has one; once settled, every edge has spread
 pub record Marked (es : List Edge) (ts : List ℕ) (side : Side) (goal : ℕ) (marks : List Bool) (settled : Bool) : Type 0 where
-  pub sized : length marks ≡ 256
+  pub sized : length marks ≡ 32
   pub right : (v : ℕ) → is_marked marks v ≡ true → reaches es ts side goal v ≡ true
   pub at_goal : is_marked marks goal ≡ true
   pub done : settled ≡ true → (x : ℕ) → x < length es → Spread es ts side (is_marked marks) x
@@ -58,22 +58,22 @@ module _ (es : List Edge) (ts : List ℕ) (side : Side) (goal : ℕ) where
   reaches_goal : reaches es ts side goal goal ≡ true
   reaches_goal = way_reached goal [] refl
 
-  pub only_goal : goal < 256 → Marked es ts side goal (set (replicate 256 false) goal true) false
+  pub only_goal : goal < 32 → Marked es ts side goal (set (replicate 32 false) goal true) false
   only_goal low = record {
-    sized = length-set (replicate 256 false) goal true ∙ length-replicate 256 false;
+    sized = length-set (replicate 32 false) goal true ∙ length-replicate 32 false;
     right = λ v m. ⊎_elim
         (λ (e : v ≡ goal). subst (λ w. reaches es ts side goal w ≡ true) (sym e) reaches_goal)
-        (λ (ne : v ≡ goal → ⊥). absurd (both_ways (get_or (replicate 256 false) v false) (blank v) (sym (get_or-set_other (replicate 256 false) goal v true false ne) ∙ m)))
+        (λ (ne : v ≡ goal → ⊥). absurd (both_ways (get_or (replicate 32 false) v false) (blank v) (sym (get_or-set_other (replicate 32 false) goal v true false ne) ∙ m)))
         (cases_eq v goal);
-    at_goal = get_or-set_same (replicate 256 false) goal true false (omega (arith, length-replicate 256 false));
+    at_goal = get_or-set_same (replicate 32 false) goal true false (omega (arith, length-replicate 32 false));
     done = λ s. absurd (both_ways false refl s);
   }
     where
-      blank : (v : ℕ) → get_or (replicate 256 false) v false ≡ false
+      blank : (v : ℕ) → get_or (replicate 32 false) v false ≡ false
       blank v = ⊎_elim
-          (λ (h : v < 256). get_or-replicate 256 v false false h)
-          (λ (h : 256 ≤ v). get_or_past (replicate 256 false) v false (omega (arith, length-replicate 256 false)))
-          (cases_lt v 256)
+          (λ (h : v < 32). get_or-replicate 32 v false false h)
+          (λ (h : 32 ≤ v). get_or_past (replicate 32 false) v false (omega (arith, length-replicate 32 false)))
+          (cases_lt v 32)
 
   pub marked_on : (before after : List Bool) (was settled : Bool) → Marked es ts side goal before was → Pass es ts side before after settled 0 → Marked es ts side goal after settled
   marked_on before after was settled marked pass = record {

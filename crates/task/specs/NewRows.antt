@@ -1,25 +1,19 @@
 -- The questions about a new row.
-use Rattle.std.specs.Prelude.{zero, suc, ◌-◌, ◌&&◌, List, ◌++◌, length, replicate, ℤ, pos, negsuc, Some, None, Ok, Err, Option, Result, nat_le}
+use Rattle.std.specs.Prelude.{zero, suc, ◌-◌, ◌&&◌, List, ◌++◌, length, replicate, ℤ, pos, Some, None, Ok, Err, Option, Result, nat_le}
 use Rattle.price.specs.Questions.{ask}
 use Rattle.price.specs.declared.refusals.Refusal.{Refusal}
 use Rattle.price.specs.declared.refusals.Refusal.TheVariants.{RowRelation, RowNumbers}
 use Rattle.task.specs.declared.rows.Relation.{Relation}
 use Rattle.task.specs.declared.rows.Relation.TheVariants.{Below, AtMost, Equal}
-use Rattle.task.specs.declared.rows.Row as declared
 use Rattle.task.specs.Coefficients.{in_range, all_small}
 use Rattle.task.specs.Rows.{Row}
-
--- what a row record means
-abbrev pub row_of : declared.Row → Row
-row_of row = record { relation = row.relation; k = row.k; coefficients = row.coefficients }
 
 -- the relation of a number
 abbrev pub relation_of : ℤ → Option Relation
 relation_of (pos zero) = Some Below
 relation_of (pos (suc zero)) = Some AtMost
 relation_of (pos (suc (suc zero))) = Some Equal
-relation_of (pos (suc (suc (suc n)))) = None
-relation_of (negsuc n) = None
+relation_of other = None
 
 abbrev pub or_refused : Option Relation → Result Relation Refusal
 or_refused (Some relation) = Ok relation
@@ -42,8 +36,3 @@ row_with (Some relation) k cs =
 -- a row of these numbers, or the question that they fail
 abbrev pub row_made : ℤ → ℤ → List ℤ → Result Row Refusal
 row_made relation k cs = row_with (relation_of relation) k cs
-
--- a result read through what its value means
-abbrev pub mapped : {A B : Type 0} → (A → B) → Result A Refusal → Result B Refusal
-mapped f (Ok x) = Ok (f x)
-mapped f (Err refusal) = Err refusal

@@ -1,6 +1,8 @@
 -- The rows of a task, and the runs that keep them.
-use Rattle.std.specs.Prelude.{◌≡◌, ℕ, suc, List, [], ◌∷◌, ℤ, pos, ◌+ℤ◌, ◌*ℤ◌, ◌≤ℤ◌, ◌<ℤ◌, slice_index_or}
+use Rattle.std.specs.Prelude.{◌≡◌, ℕ, suc, true, List, [], ◌∷◌, length, ℤ, pos, ◌+ℤ◌, ◌*ℤ◌, ◌≤ℤ◌, ◌<ℤ◌, slice_index_or}
 use Rattle.std.specs.List.{AllByRecursion}
+use Rattle.price.specs.Ranges.{Within}
+use Rattle.task.specs.Coefficients.{all_small}
 use Rattle.task.specs.declared.edges.Edge.{Edge}
 use Rattle.task.specs.declared.rows.Relation.{Relation}
 use Rattle.task.specs.declared.rows.Relation.TheVariants.{Below, AtMost, Equal}
@@ -12,6 +14,12 @@ pub record Row : Type 0 where
   pub relation : Relation
   pub k : ℤ
   pub coefficients : List ℤ
+
+-- what is true of every row: its range, and a small coefficient for each of 64 blocks
+pub record IsRow (k : ℤ) (coefficients : List ℤ) : Type 0 where
+  pub k_fits : Within 1048576 k
+  pub every_block : length coefficients ≡ 64
+  pub all_fit : all_small coefficients ≡ true
 
 -- the coefficient of a block: 0 past the list
 abbrev pub coefficient : Row → ℕ → ℤ

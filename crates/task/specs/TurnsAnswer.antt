@@ -1,5 +1,5 @@
 -- The answer of the questions about turns. To compute with.
-use Rattle.std.specs.Prelude.{ℕ, ◌+◌, Bool, not, ◌&&◌, List, map, length, ℤ, Some, None, Ok, Err, Option, Result, ◌==◌, int_le, int_lt, nat_eq, nat_lt, slice_index}
+use Rattle.std.specs.Prelude.{ℕ, ◌+◌, Bool, not, ◌&&◌, List, length, ℤ, Some, None, Ok, Err, Option, Result, ◌==◌, int_le, int_lt, nat_eq, nat_lt, slice_index}
 use Rattle.price.specs.Questions.{ask}
 use Rattle.price.specs.declared.refusals.Refusal.{Refusal}
 use Rattle.price.specs.declared.refusals.Refusal.TheVariants.{TurnsCount, TurnsRange, Unbalanced, Stranded, RowBroken}
@@ -8,10 +8,8 @@ use Rattle.task.specs.declared.edges.Side.{Side}
 use Rattle.task.specs.declared.edges.Side.TheVariants.{Tail, Head}
 use Rattle.task.specs.declared.rows.Relation.{Relation}
 use Rattle.task.specs.declared.rows.Relation.TheVariants.{Below, AtMost, Equal}
-use Rattle.task.specs.declared.rows.Row as declared
 use Rattle.task.specs.Graph.{head_of}
 use Rattle.task.specs.Lowest.{one_if, first}
-use Rattle.task.specs.NewRows.{row_of}
 use Rattle.task.specs.Rows.{Row, row_sum}
 use Rattle.task.specs.Sides.{end_at, is_live, node_count, reaches}
 use Rattle.task.specs.Sound.{row_at}
@@ -42,10 +40,6 @@ kept es ts row = meets row.relation (row_sum es row ts) row.k
 
 abbrev pub broken : List Edge → List Row → List ℕ → ℕ → Bool
 broken es rows ts i = not (kept es ts (row_at rows i))
-
--- what row records mean
-abbrev pub rows_of : List declared.Row → List Row
-rows_of rows = map row_of rows
 
 -- one question of each place: the lowest that fails it is refused
 abbrev pub unless : (ℕ → Refusal) → Option ℕ → Result (Unit {0}) Refusal → Result (Unit {0}) Refusal

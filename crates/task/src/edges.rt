@@ -4,17 +4,16 @@ ghost use Rattle.price.specs.Questions.{ask};
 ghost use Rattle.task.specs.Edges.{edge_made, repeated, Repeats};
 ghost use Rattle.task.specs.Sides.{end_at, other_side};
 
+use crate::numbers::Node;
 use price::Refusal;
-
-const MAX_NODE: u8 = 31;
 
 const MAX_BLOCK: u8 = 63;
 
 /// An edge from one node to another: the block that it carries, and the price of a turn.
 #[derive(Clone, Copy, Debug, PartialEq, Eq)]
 pub struct Edge {
-    pub tail: u8,
-    pub head: u8,
+    pub tail: Node,
+    pub head: Node,
     pub block: u8,
     pub cycles: u16,
     pub reads: u16,
@@ -27,13 +26,13 @@ pub(crate) enum Side {
     Head,
 }
 
-// The number of a node or of a block.
-fn numbered(number: u32, max: u8) -> Result<u8, Refusal>
-    ensures { result ≡ ask (nat_le number max) Refusal.EdgeNumbers (Ok number) }
+// The number of a block.
+fn numbered(number: u32) -> Result<u8, Refusal>
+    ensures { result ≡ ask (nat_le number 63) Refusal.EdgeNumbers (Ok number) }
 {
     u8::try_from(number)
         .ok()
-        .filter(|number| *number <= max)
+        .filter(|number| *number <= MAX_BLOCK)
         .ok_or(Refusal::EdgeNumbers)
 }
 
@@ -50,16 +49,16 @@ impl Edge {
         ensures { result ≡ edge_made tail head block cycles reads }
     {
         Ok(Edge {
-            tail: numbered(tail, MAX_NODE)?,
-            head: numbered(head, MAX_NODE)?,
-            block: numbered(block, MAX_BLOCK)?,
+            tail: Node::new(tail)?,
+            head: Node::new(head)?,
+            block: numbered(block)?,
             cycles: part(cycles)?,
             reads: part(reads)?,
         })
     }
 
     // The node on that side.
-    pub(crate) fn node(&self, side: Side) -> u8
+    pub(crate) fn node(&self, side: Side) -> Node
         ensures { result ≡ end_at side self.now }
     {
         match side {

@@ -2,9 +2,8 @@
 ghost use Rattle.std.specs.Prelude.{◌≡◌, ◌^◌, length, pos, ◌*ℤ◌};
 ghost use Rattle.price.specs.Ranges.{Within};
 ghost use Rattle.task.specs.Lowest.{first};
-ghost use Rattle.task.specs.NewRows.{row_of};
-ghost use Rattle.task.specs.Rows.{coefficient, row_sum};
-ghost use Rattle.task.specs.TurnsAnswer.{broken, kept, meets, rows_of};
+ghost use Rattle.task.specs.Rows.{row_sum};
+ghost use Rattle.task.specs.TurnsAnswer.{broken, kept, meets};
 
 use crate::rows::{Relation, Row};
 use crate::tasks::Flow;
@@ -30,22 +29,10 @@ impl Relation {
     }
 }
 
-impl Row {
-    /// The coefficient of a block, 0 past the last one.
-    pub fn coefficient(&self, block: u8) -> i32
-        ensures { result ≡ coefficient (row_of self.now) block }
-    {
-        self.coefficients
-            .get(usize::from(block))
-            .copied()
-            .unwrap_or(0)
-    }
-}
-
 impl Flow<'_> {
     // The row's sum, edge by edge: the coefficient of the edge's block times its turns. A `for`, since each product's range bounds the sum.
     fn row_sum(self, row: &Row) -> i128
-        ensures { result ≡ row_sum self.entry.edges.now (row_of row.now) self.entry.turns.now }
+        ensures { result ≡ row_sum self.entry.edges.now row.now self.entry.turns.now }
     {
         let mut sum = 0;
         for (x, edge) in self.edges.iter().enumerate() {
@@ -55,14 +42,15 @@ impl Flow<'_> {
     }
 
     fn keeps(self, row: &Row) -> bool
-        ensures { result ≡ kept self.entry.edges.now self.entry.turns.now (row_of row.now) }
+        ensures { result ≡ kept self.entry.edges.now self.entry.turns.now row.now }
     {
-        row.relation.is_met(self.row_sum(row), i128::from(row.k))
+        row.relation()
+            .is_met(self.row_sum(row), i128::from(row.k()))
     }
 
     // The lowest row that the turns do not keep.
     pub(crate) fn first_broken(self, rows: &[Row]) -> Option<usize>
-        ensures { result ≡ first (broken self.entry.edges.now (rows_of rows.now) self.entry.turns.now) (length (rows_of rows.now)) }
+        ensures { result ≡ first (broken self.entry.edges.now rows.now self.entry.turns.now) (length rows.now) }
     {
         rows.iter().position(|row| !self.keeps(row))
     }

@@ -5,6 +5,7 @@ mod edges;
 mod keeping;
 mod laws;
 mod new_rows;
+mod numbers;
 mod pricing;
 mod rows;
 mod sealing;
@@ -14,6 +15,7 @@ mod turns;
 
 pub use edges::{Edge, repeats};
 pub use laws::sums_go_by_places;
+pub use numbers::{NODES, Node};
 pub use rows::{BLOCKS, Relation, Row};
 pub use sealing::{ends, nodes};
-pub use tasks::{Flow, MAX_EDGES, MAX_ROWS, NODES, Task};
+pub use tasks::{Flow, MAX_EDGES, MAX_ROWS, Task};

@@ -1,7 +1,7 @@
 // New rows.
 ghost use Rattle.std.specs.Prelude.{◌≡◌, ◌≤◌, length};
 ghost use Rattle.task.specs.Coefficients.{all_small};
-ghost use Rattle.task.specs.NewRows.{mapped, padded, related, row_made, row_of};
+ghost use Rattle.task.specs.NewRows.{padded, related, row_made};
 
 use crate::rows::{BLOCKS, Relation, Row};
 use price::Refusal;
@@ -46,7 +46,7 @@ impl TryFrom<i32> for Relation {
 impl Row {
     /// The row of these numbers: a relation (0: below k, 1: at most k, 2: equal to k), k, and the coefficients of the first blocks, 0 for all others.
     pub fn new(relation: i32, k: i32, coefficients: &[i32]) -> Result<Row, Refusal>
-        ensures { mapped row_of result ≡ row_made relation k coefficients.now }
+        ensures { result ≡ row_made relation k coefficients.now }
     {
         let relation = Relation::try_from(relation)?;
         if !(-MAX_K..=MAX_K).contains(&k)

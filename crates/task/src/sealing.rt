@@ -6,28 +6,27 @@ ghost use Rattle.task.specs.Sealing.{Ends, EveryEdge, Sealed};
 ghost use Rattle.task.specs.Sides.{node_count, touched, untouched};
 
 use crate::edges::{Edge, Side};
+use crate::numbers::Node;
 use crate::tasks::Flow;
 use price::Refusal;
 
 /// How many nodes there are: one more than the highest number that an edge names.
 pub fn nodes(edges: &[Edge]) -> usize
     ensures count { result ≡ node_count edges.now }
-    ensures few { result ≤ 256 }
+    ensures few { result ≤ 32 }
 {
     edges
         .iter()
-        .map(|edge| edge.tail.max(edge.head))
+        .map(|edge| edge.tail.index().max(edge.head.index()))
         .max()
-        .map_or(0, |highest| usize::from(highest) + 1)
+        .map_or(0, |highest| highest + 1)
 }
 
 // Whether some edge has the node on that side.
 fn touches(edges: &[Edge], side: Side, node: usize) -> bool
     ensures { result ≡ touched side node edges.now }
 {
-    edges
-        .iter()
-        .any(|edge| usize::from(edge.node(side)) == node)
+    edges.iter().any(|edge| edge.node(side).index() == node)
 }
 
 // The lowest node from `from` on, below `count`, that no edge has on that side.
@@ -38,19 +37,19 @@ fn first_free(edges: &[Edge], side: Side, from: usize, count: usize) -> Option<u
 }
 
 // The only node that no edge has on that side.
-fn only_free(edges: &[Edge], side: Side) -> Option<u8>
+fn only_free(edges: &[Edge], side: Side) -> Option<Node>
     ensures { result ≡ sole (untouched side edges.now) (node_count edges.now) }
 {
     let count = nodes(edges);
     let only = first_free(edges, side, 0, count)?;
     match first_free(edges, side, only + 1, count) {
         Some(_) => None,
-        None => u8::try_from(only).ok(),
+        None => Node::at(only),
     }
 }
 
 // The lowest node on no path from the start to the end.
-fn first_astray(edges: &[Edge], start: u8, end: u8) -> Option<usize>
+fn first_astray(edges: &[Edge], start: Node, end: Node) -> Option<usize>
     ensures { result ≡ first (astray edges.now start end) (node_count edges.now) }
 {
     // without a list of turns every edge may be taken
@@ -61,7 +60,7 @@ fn first_astray(edges: &[Edge], start: u8, end: u8) -> Option<usize>
 }
 
 // The questions in their order.
-fn find_ends(edges: &[Edge]) -> Result<(u8, u8), Refusal>
+fn find_ends(edges: &[Edge]) -> Result<(Node, Node), Refusal>
     ensures { result ≡ ends_answer edges.now }
 {
     let start = only_free(edges, Side::Head).ok_or(Refusal::NotOneStart)?;
@@ -73,7 +72,7 @@ fn find_ends(edges: &[Edge]) -> Result<(u8, u8), Refusal>
 }
 
 /// The start and the end, as a pair: the only node that no edge enters, and the only one that no edge leaves. Every node lies on a path between them.
-pub fn ends(edges: &[Edge]) -> Result<(u8, u8), Refusal>
+pub fn ends(edges: &[Edge]) -> Result<(Node, Node), Refusal>
     ensures answer { result ≡ ends_answer edges.now }
     ensures means { Sealed edges.now result }
     ensures exact { (start end : ℕ) → (result ≡ Ok (start, end)) ↔ Ends edges.now start end }

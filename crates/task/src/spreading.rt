@@ -1,10 +1,11 @@
 // Which nodes are joined to a node.
-ghost use Rattle.std.specs.Prelude.{◌≡◌, ℕ, ◌<◌, false, slice_index_or};
+ghost use Rattle.std.specs.Prelude.{◌≡◌, ℕ, false, slice_index_or};
 ghost use Rattle.task.specs.Sides.{is_live, reaches};
 ghost use Rattle.task.specs.Spreading.{Pass};
 
 use crate::edges::Side;
-use crate::tasks::{Flow, NODES};
+use crate::numbers::{NODES, Node};
+use crate::tasks::Flow;
 
 impl Flow<'_> {
     // Whether edge `x` may be taken: it has turns, or the list of turns does not reach so far.
@@ -22,8 +23,8 @@ impl Flow<'_> {
         let mut settled = true;
         for x in (0..self.edges.len()).rev() {
             let edge = &self.edges[x];
-            let from = usize::from(edge.node(side));
-            let to = usize::from(edge.node(side.other()));
+            let from = edge.node(side).index();
+            let to = edge.node(side.other()).index();
             if !marks[from] && marks[to] && self.is_live(x) {
                 marks[from] = true;
                 settled = false;
@@ -33,11 +34,11 @@ impl Flow<'_> {
     }
 
     // Marks the nodes joined to `goal` by live edges: from tail to head those that reach it (`Side::Tail`), and those reached from it (`Side::Head`).
-    pub(crate) fn joined_to(self, side: Side, goal: u8) -> [bool; NODES]
-        ensures { (v : ℕ) → v < 256 → slice_index_or result v false ≡ reaches self.entry.edges.now self.entry.turns.now side goal v }
+    pub(crate) fn joined_to(self, side: Side, goal: Node) -> [bool; NODES]
+        ensures { (v : ℕ) → slice_index_or result v false ≡ reaches self.entry.edges.now self.entry.turns.now side goal v }
     {
         let mut marks = [false; NODES];
-        marks[usize::from(goal)] = true;
+        marks[goal.index()] = true;
         let mut settled = false;
         while !settled {
             settled = self.spread(side, &mut marks);

@@ -2,6 +2,7 @@
 ghost use Rattle.std.specs.Prelude.{◌≡◌, slice_index};
 
 use crate::edges::Edge;
+use crate::numbers::Node;
 use crate::rows::Row;
 
 /// As many edges as a case may have.
@@ -10,16 +11,13 @@ pub const MAX_EDGES: usize = 64;
 /// As many rows as a case may have.
 pub const MAX_ROWS: usize = 24;
 
-/// As many nodes as a node's number can name: the length of each table by nodes. These are arrays, since judging takes no memory.
-pub const NODES: usize = 256;
-
 /// The edges and the rows of a task, its start and its end, which are those that `ends` answers. It lends lists, and nobody prints it.
 #[derive(Clone, Copy)]
 pub struct Task<'a> {
     pub edges: &'a [Edge],
     pub rows: &'a [Row],
-    pub start: u8,
-    pub end: u8,
+    pub start: Node,
+    pub end: Node,
 }
 
 /// A flow: the edges of a task, and a number of turns for each. Both lists are lent, the edges by a case and the turns by a claim, and nobody prints them.

@@ -4,9 +4,10 @@ ghost use Rattle.task.specs.Lowest.{first};
 ghost use Rattle.task.specs.Sealing.{Ends};
 ghost use Rattle.task.specs.Sides.{node_count};
 ghost use Rattle.task.specs.Sound.{Checked, Claim, Sound};
-ghost use Rattle.task.specs.TurnsAnswer.{over, rows_of, stranded, turns_answer, turns_at, unbalanced};
+ghost use Rattle.task.specs.TurnsAnswer.{over, stranded, turns_answer, turns_at, unbalanced};
 
 use crate::edges::Side;
+use crate::numbers::Node;
 use crate::sealing::nodes;
 use crate::tasks::{Flow, Task};
 use price::Refusal;
@@ -28,7 +29,7 @@ impl Flow<'_> {
     {
         let mut sum = 0;
         for (x, edge) in self.edges.iter().enumerate() {
-            if usize::from(edge.node(side)) == node {
+            if edge.node(side).index() == node {
                 sum += u128::from(self.turns_of(x));
             }
         }
@@ -36,35 +37,37 @@ impl Flow<'_> {
     }
 
     // Whether the turns entering the node, one more at the start, differ from those leaving it, one more at the end.
-    fn is_unbalanced(self, start: u8, end: u8, node: usize) -> bool
+    fn is_unbalanced(self, start: Node, end: Node, node: usize) -> bool
         ensures { result ≡ unbalanced self.entry.edges.now start end self.entry.turns.now node }
     {
-        let entering = self.turns_at(Side::Head, node) + u128::from(node == usize::from(start));
-        let leaving = self.turns_at(Side::Tail, node) + u128::from(node == usize::from(end));
+        let entering = self.turns_at(Side::Head, node) + u128::from(node == start.index());
+        let leaving = self.turns_at(Side::Tail, node) + u128::from(node == end.index());
         entering != leaving
     }
 
     // The lowest node out of balance.
-    fn first_unbalanced(self, start: u8, end: u8) -> Option<usize>
+    fn first_unbalanced(self, start: Node, end: Node) -> Option<usize>
         ensures { result ≡ first (unbalanced self.entry.edges.now start end self.entry.turns.now) (node_count self.entry.edges.now) }
     {
         (0..nodes(self.edges)).find(|node| self.is_unbalanced(start, end, *node))
     }
 
     // The lowest edge with turns from whose head edges with turns do not lead to the end.
-    fn first_stranded(self, end: u8) -> Option<usize>
+    fn first_stranded(self, end: Node) -> Option<usize>
         ensures { result ≡ first (stranded self.entry.edges.now end self.entry.turns.now) (length self.entry.edges.now) }
     {
         let to_end = self.joined_to(Side::Tail, end);
-        self.edges.iter().enumerate().position(|(x, edge)| self.is_live(x)
-            && !to_end[usize::from(edge.head)])
+        self.edges
+            .iter()
+            .enumerate()
+            .position(|(x, edge)| self.is_live(x) && !to_end[edge.head.index()])
     }
 }
 
 impl Task<'_> {
     // The questions in their order.
-    fn ask_turns(self, turns: &[u32]) -> Result<(), Refusal>
-        ensures { result ≡ turns_answer self.entry.edges.now (rows_of self.entry.rows.now) self.entry.start self.entry.end turns.now }
+    fn ask_turns(&self, turns: &[u32]) -> Result<(), Refusal>
+        ensures { result ≡ turns_answer self.now.edges.now self.now.rows.now self.now.start self.now.end turns.now }
     {
         if turns.len() != self.edges.len() {
             return Err(Refusal::TurnsCount);
@@ -89,11 +92,11 @@ impl Task<'_> {
     }
 
     /// Accepts turns for every edge that are in range, balance at every node, join every edge with turns to the end, and keep every row.
-    pub fn check_turns(self, turns: &[u32]) -> Result<(), Refusal>
-        ensures answer { result ≡ turns_answer self.entry.edges.now (rows_of self.entry.rows.now) self.entry.start self.entry.end turns.now }
-        ensures means { Checked self.entry.edges.now (rows_of self.entry.rows.now) self.entry.start self.entry.end turns.now result }
-        ensures exact { (result ≡ Ok tt) ↔ Sound self.entry.edges.now (rows_of self.entry.rows.now) self.entry.start self.entry.end turns.now }
-        ensures claims { result ≡ Ok tt → Ends self.entry.edges.now self.entry.start self.entry.end → Claim self.entry.edges.now self.entry.start self.entry.end turns.now }
+    pub fn check_turns(&self, turns: &[u32]) -> Result<(), Refusal>
+        ensures answer { result ≡ turns_answer self.now.edges.now self.now.rows.now self.now.start self.now.end turns.now }
+        ensures means { Checked self.now.edges.now self.now.rows.now self.now.start self.now.end turns.now result }
+        ensures exact { (result ≡ Ok tt) ↔ Sound self.now.edges.now self.now.rows.now self.now.start self.now.end turns.now }
+        ensures claims { result ≡ Ok tt → Ends self.now.edges.now self.now.start self.now.end → Claim self.now.edges.now self.now.start self.now.end turns.now }
     {
         self.ask_turns(turns)
     }

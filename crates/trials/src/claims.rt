@@ -12,12 +12,14 @@ use std::alloc::Global;
 fn tell(rt: &HostRuntime, name: &str, answer: Result<Answer, Refusal>) -> anyhow::Result<()> {
     print!(rt; "{name}: ")?;
     match answer {
-        Ok(Answer::Price(price)) => println!(rt;
-            "certified at {} {}",
-            price.cycles(),
-            price.reads()
-        )?,
-        Ok(_) => println!(rt; "not a claim's answer")?,
+        Ok(answer) => match answer {
+            Answer::Price(price) => println!(rt;
+                "certified at {} {}",
+                price.cycles(),
+                price.reads()
+            )?,
+            _ => println!(rt; "not a claim's answer")?,
+        },
         Err(refusal) => show_refused(rt, refusal)?,
     }
     Ok(())

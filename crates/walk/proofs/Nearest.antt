@@ -53,35 +53,35 @@ module _ (es : List Edge) (ts before after : List ℕ) (settled : Bool) (n x : �
 
 -- no entry is too low, and the end has none; once settled, no edge brings a node nearer
 pub record Nearing (es : List Edge) (ts : List ℕ) (end : ℕ) (far : List ℕ) (settled : Bool) : Type 0 where
-  pub sized : length far ≡ 256
-  pub most : (v : ℕ) → v < 256 → get_or far v 0 ≤ length es + 2
+  pub sized : length far ≡ 32
+  pub most : (v : ℕ) → v < 32 → get_or far v 0 ≤ length es + 2
   pub right : Right (near es ts end) (length es + 2) far
   pub at_end : get_or far end 0 ≡ 0
   pub done : settled ≡ true → (x : ℕ) → x < length es → Relaxed es ts far x
 
 module _ (es : List Edge) (ts : List ℕ) (end : ℕ) where
-  pub only_end : end < 256 → Nearing es ts end (set (replicate 256 (length es + 2)) end 0) false
+  pub only_end : end < 32 → Nearing es ts end (set (replicate 32 (length es + 2)) end 0) false
   only_end low = record {
-    sized = length-set (replicate 256 (length es + 2)) end 0 ∙ length-replicate 256 (length es + 2);
+    sized = length-set (replicate 32 (length es + 2)) end 0 ∙ length-replicate 32 (length es + 2);
     most = λ v h. ⊎_elim
-        (λ (e : v ≡ end). omega (arith, subst (λ u. get_or (set (replicate 256 (length es + 2)) end 0) u 0 ≡ 0) (sym e) here))
+        (λ (e : v ≡ end). omega (arith, subst (λ u. get_or (set (replicate 32 (length es + 2)) end 0) u 0 ≡ 0) (sym e) here))
         (λ (ne : v ≡ end → ⊥). omega (arith, there v h ne))
         (cases_eq v end);
     right = λ v h few. ⊎_elim
-        (λ (e : v ≡ end). near_end es ts end (get_or (set (replicate 256 (length es + 2)) end 0) v 0) v e)
-        (λ (ne : v ≡ end → ⊥). absurd (omega (arith, few, there v (omega (arith, h, length-set (replicate 256 (length es + 2)) end 0, length-replicate 256 (length es + 2))) ne)))
+        (λ (e : v ≡ end). near_end es ts end (get_or (set (replicate 32 (length es + 2)) end 0) v 0) v e)
+        (λ (ne : v ≡ end → ⊥). absurd (omega (arith, few, there v (omega (arith, h, length-set (replicate 32 (length es + 2)) end 0, length-replicate 32 (length es + 2))) ne)))
         (cases_eq v end);
     at_end = here;
     done = λ s. absurd (both_ways false refl s);
   }
     where
-      here : get_or (set (replicate 256 (length es + 2)) end 0) end 0 ≡ 0
-      here = get_or-set_same (replicate 256 (length es + 2)) end 0 0 (omega (arith, length-replicate 256 (length es + 2)))
+      here : get_or (set (replicate 32 (length es + 2)) end 0) end 0 ≡ 0
+      here = get_or-set_same (replicate 32 (length es + 2)) end 0 0 (omega (arith, length-replicate 32 (length es + 2)))
 
-      there : (v : ℕ) → v < 256 → (v ≡ end → ⊥) → get_or (set (replicate 256 (length es + 2)) end 0) v 0 ≡ length es + 2
-      there v h ne = get_or-set_other (replicate 256 (length es + 2)) end v 0 0 ne ∙ get_or-replicate 256 v (length es + 2) 0 h
+      there : (v : ℕ) → v < 32 → (v ≡ end → ⊥) → get_or (set (replicate 32 (length es + 2)) end 0) v 0 ≡ length es + 2
+      there v h ne = get_or-set_other (replicate 32 (length es + 2)) end v 0 0 ne ∙ get_or-replicate 32 v (length es + 2) 0 h
 
-  pub only_end_small : end < 256 → length es < 2 ^ 62 → (v : ℕ) → v < 256 → get_or (set (replicate 256 (length es + 2)) end 0) v 0 < 2 ^ 63
+  pub only_end_small : end < 32 → length es < 2 ^ 62 → (v : ℕ) → v < 32 → get_or (set (replicate 32 (length es + 2)) end 0) v 0 < 2 ^ 63
   only_end_small low few v h = omega (arith, (only_end low).most v h)
 
   pub nearing_on : (before after : List ℕ) (was settled : Bool) → Nearing es ts end before was → Pass es ts before after settled 0 → Nearing es ts end after settled
@@ -117,7 +117,7 @@ module _ (es : List Edge) (ts : List ℕ) (end : ℕ) where
             (λ on. by_edge k v on.number on.link on.hops (go k (head_of es on.number) on.near))
             (ways.within_cases (length es) (tail_of es) (head_of es) (has_turns ts) end k v h)
 
-    entry_is : (v : ℕ) → v < 256 → get_or far v 0 ≡ distance es ts end v
+    entry_is : (v : ℕ) → v < 32 → get_or far v 0 ≡ distance es ts end v
     unfolding distance
     entry_is v low = ⊎_elim
         (λ (few : get_or far v 0 < length es + 2).

@@ -38,22 +38,22 @@ module _ (p : ℕ → Bool) (n : ℕ) where
 
 -- of the edges from x on, the table has for each node the lowest that leads one nearer, or the number of edges
 pub record ExitsFrom (es : List Edge) (ts : List ℕ) (end : ℕ) (exits : List ℕ) (x : ℕ) : Type 0 where
-  pub sized : length exits ≡ 256
-  pub all : (v : ℕ) → v < 256 → LowestFrom (leads_nearer es ts end v) (length es) x (get_or exits v 0)
+  pub sized : length exits ≡ 32
+  pub all : (v : ℕ) → v < 32 → LowestFrom (leads_nearer es ts end v) (length es) x (get_or exits v 0)
 
 module _ (es : List Edge) (ts : List ℕ) (end : ℕ) where
-  pub exits_none : ExitsFrom es ts end (replicate 256 (length es)) (length es)
+  pub exits_none : ExitsFrom es ts end (replicate 32 (length es)) (length es)
   exits_none = record {
-    sized = length-replicate 256 (length es);
-    all = λ v low. from_here (leads_nearer es ts end v) (length es) (length es) _ (get_or-replicate 256 v (length es) 0 low) (omega arith) (λ h. absurd (omega arith));
+    sized = length-replicate 32 (length es);
+    all = λ v low. from_here (leads_nearer es ts end v) (length es) (length es) _ (get_or-replicate 32 v (length es) 0 low) (omega arith) (λ h. absurd (omega arith));
   }
 
-  pub exits_all : (exits : List ℕ) (x : ℕ) → x ≤ 0 → ExitsFrom es ts end exits x → (v : ℕ) → v < 256 → get_or exits v 0 ≡ last_exit es ts end v
+  pub exits_all : (exits : List ℕ) (x : ℕ) → x ≤ 0 → ExitsFrom es ts end exits x → (v : ℕ) → v < 32 → get_or exits v 0 ≡ last_exit es ts end v
   exits_all exits x done f v low = from_all (leads_nearer es ts end v) (length es) x (get_or exits v 0) done (f.all v low)
 
-  module _ (far exits : List ℕ) (x m : ℕ) (right : Far es ts end far) (low : head_of es x < 256) (next : m ≤ x + 1) (f : ExitsFrom es ts end exits m) where
+  module _ (far exits : List ℕ) (x m : ℕ) (right : Far es ts end far) (low : head_of es x < 32) (next : m ≤ x + 1) (f : ExitsFrom es ts end exits m) where
     -- edge x leads from v to a node one nearer exactly if it leaves v and does so by the table
-    leads_by : (v : ℕ) → v < 256 → leads_nearer es ts end v x ≡ eqb (tail_of es x) v && nearer_by es ts far x
+    leads_by : (v : ℕ) → v < 32 → leads_nearer es ts end v x ≡ eqb (tail_of es x) v && nearer_by es ts far x
     leads_by v h = grind (arith, nat_tests, right.all (head_of es x) low, right.all v h)
 
     pub exits_pass : nearer_by es ts far x ≡ false → ExitsFrom es ts end exits x

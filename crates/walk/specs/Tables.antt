@@ -1,4 +1,4 @@
--- Tables of distances and of last exits, an entry for each of 256 nodes.
+-- Tables of distances and of last exits, an entry for each of 32 nodes.
 use Rattle.std.specs.Prelude.{◌≡◌, ℕ, ◌+◌, ◌<◌, ◌≤◌, Bool, true, not, ◌&&◌, List, map, length, sum, ◌==◌, slice_index}
 use Rattle.std.specs.List.{range_with_len}
 use Rattle.task.specs.declared.edges.Edge.{Edge}
@@ -8,16 +8,16 @@ use Rattle.walk.specs.Rule.{has_turns, distance, last_exit}
 
 -- the table holds the distance of every node
 pub record Far (es : List Edge) (claimed : List ℕ) (end : ℕ) (far : List ℕ) : Type 0 where
-  pub all : (v : ℕ) → v < 256 → slice_index far v ≡ distance es claimed end v
-  pub most : (v : ℕ) → v < 256 → slice_index far v ≤ length es + 2
+  pub all : (v : ℕ) → v < 32 → slice_index far v ≡ distance es claimed end v
+  pub most : (v : ℕ) → v < 32 → slice_index far v ≤ length es + 2
 
 -- the table holds the last exit of every node
 pub record Tabled (es : List Edge) (claimed : List ℕ) (end : ℕ) (exits : List ℕ) : Type 0 where
-  pub all : (v : ℕ) → v < 256 → slice_index exits v ≡ last_exit es claimed end v
+  pub all : (v : ℕ) → v < 32 → slice_index exits v ≡ last_exit es claimed end v
 
 -- the last exits of all nodes, in their order
 unfoldable pub exit_table : List Edge → List ℕ → ℕ → List ℕ
-exit_table es claimed end = map (last_exit es claimed end) (range_with_len 0 256)
+exit_table es claimed end = map (last_exit es claimed end) (range_with_len 0 32)
 
 -- ---- to compute with
 

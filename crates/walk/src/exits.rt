@@ -3,22 +3,22 @@ ghost use Rattle.std.specs.Prelude.{◌≡◌, ℕ, ◌^◌, ◌<◌, length, sl
 ghost use Rattle.task.specs.Graph.{head_of};
 ghost use Rattle.walk.specs.Tables.{Far, nearer_by, Pass, Tabled, exit_table};
 
-use task::{Flow, NODES};
+use task::{Flow, NODES, Node};
 
 // A table by nodes: how many edges with turns a way to the end takes.
 #[derive(Drop)]
 struct Distances {
     far: [usize; NODES],
-    ghost small: { (v : ℕ) → v < 256 → slice_index far v < 2 ^ 63 },
+    ghost small: { (v : ℕ) → v < 32 → slice_index far v < 2 ^ 63 },
 }
 
 impl Distances {
     // The distance of every node. Each round is one pass over the edges, and the last one changes nothing.
-    fn to_end(flow: Flow<'_>, end: u8) -> Distances
+    fn to_end(flow: Flow<'_>, end: Node) -> Distances
         ensures { Far flow.entry.edges.now flow.entry.turns.now end result.far }
     {
         let mut far = [flow.edges.len() + 2; NODES];
-        far[usize::from(end)] = 0;
+        far[end.index()] = 0;
         let mut table = Distances { far };
         while !table.shorten(flow) {}
         table
@@ -32,8 +32,8 @@ impl Distances {
         let mut settled = true;
         for x in (0..flow.edges.len()).rev() {
             let edge = &flow.edges[x];
-            let from = usize::from(edge.tail);
-            let to = usize::from(edge.head);
+            let from = edge.tail.index();
+            let to = edge.head.index();
             if flow.turns_of(x) > 0 && self.far[to] + 1 < self.far[from] {
                 self.far[from] = self.far[to] + 1;
                 settled = false;
@@ -46,17 +46,17 @@ impl Distances {
     fn leads_nearer(&self, flow: Flow<'_>, x: usize) -> bool
         requires { x < length flow.edges.now }
         ensures answer { result ≡ nearer_by flow.entry.edges.now flow.entry.turns.now self.now.far x }
-        ensures low { head_of flow.entry.edges.now x < 256 }
+        ensures low { head_of flow.entry.edges.now x < 32 }
     {
         let edge = &flow.edges[x];
-        let from = usize::from(edge.tail);
-        let to = usize::from(edge.head);
+        let from = edge.tail.index();
+        let to = edge.head.index();
         flow.turns_of(x) > 0 && self.far[to] + 1 == self.far[from]
     }
 }
 
 /// The last exit of every node: the lowest edge with turns that leads to a node one nearer to the end, or the number of edges, which the rule of step takes as it stands.
-pub fn last_exits(flow: Flow<'_>, end: u8) -> [usize; NODES]
+pub fn last_exits(flow: Flow<'_>, end: Node) -> [usize; NODES]
     ensures table { result ≡ exit_table flow.entry.edges.now flow.entry.turns.now end }
     ensures exits { Tabled flow.entry.edges.now flow.entry.turns.now end result }
 {
@@ -65,7 +65,7 @@ pub fn last_exits(flow: Flow<'_>, end: u8) -> [usize; NODES]
     // from the last edge to the first, so that the lowest one stays
     for x in (0..flow.edges.len()).rev() {
         if table.leads_nearer(flow, x) {
-            exits[usize::from(flow.edges[x].tail)] = x;
+            exits[flow.edges[x].tail.index()] = x;
         }
     }
     exits

@@ -4,10 +4,10 @@ ghost use Rattle.walk.specs.Rule.{next, spares, taken};
 ghost use Rattle.walk.specs.Standing.{StepsOn};
 ghost use Rattle.walk.specs.Tables.{Tabled};
 
-use task::{Flow, NODES};
+use task::{Flow, NODES, Node};
 
 // Whether edge `x` leaves the node and has turns left, one turn of the last exit set aside.
-fn has_spare(left: Flow<'_>, at: u8, last: usize, x: usize) -> bool
+fn has_spare(left: Flow<'_>, at: Node, last: usize, x: usize) -> bool
     requires { x < length left.edges.now }
     ensures { result ≡ spares left.entry.edges.now left.entry.turns.now at last x }
 {
@@ -15,7 +15,7 @@ fn has_spare(left: Flow<'_>, at: u8, last: usize, x: usize) -> bool
 }
 
 // The lowest such edge; if there is none, the last exit. None at the end.
-fn choose(left: Flow<'_>, last: usize, at: u8, end: u8) -> Option<usize>
+fn choose(left: Flow<'_>, last: usize, at: Node, end: Node) -> Option<usize>
     ensures { result ≡ taken left.entry.edges.now left.entry.turns.now at end last }
 {
     if at == end {
@@ -26,10 +26,10 @@ fn choose(left: Flow<'_>, last: usize, at: u8, end: u8) -> Option<usize>
 }
 
 /// The edge that the rule takes at a node, by the table of last exits and the turns left; none at the end.
-pub fn next_edge(left: Flow<'_>, exits: &[usize; NODES], at: u8, end: u8) -> Option<usize>
+pub fn next_edge(left: Flow<'_>, exits: &[usize; NODES], at: Node, end: Node) -> Option<usize>
     ensures answer { result ≡ taken left.entry.edges.now left.entry.turns.now at end (slice_index exits.now at) }
     ensures rule { (claimed : List ℕ) → Tabled left.entry.edges.now claimed end exits.now → result ≡ next left.entry.edges.now claimed end left.entry.turns.now at }
     ensures stands { StepsOn left.entry.edges.now exits.now end left.entry.turns.now at result }
 {
-    choose(left, exits[usize::from(at)], at, end)
+    choose(left, exits[at.index()], at, end)
 }

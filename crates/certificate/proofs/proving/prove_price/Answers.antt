@@ -1,5 +1,4 @@
 use Rattle.std.proofs.Common.{pos, sym, subst}
-use Rattle.price.specs.Prices.{pair}
 use Rattle.certificate.specs.Judged.{Judged}
 use Rattle.certificate.specs.Tasks.{task_of}
 use Rattle.certificate.proofs.Proves.{judged, price_sound}
@@ -9,8 +8,8 @@ pub returns : goal.returns
 returns g c =
     let le = g.T.Tariff.le c.args.tariff.now in
     let unit = g.T.Tariff.unit c.args.tariff.now in
-    let task = task_of c.args.task in
-    let claimed = pair c.args.claimed in
+    let task = task_of c.args.task.now in
+    let claimed = c.args.claimed in
     let xs = c.args.tree.now in
     let means = subst (Judged le unit task claimed (pos 1000) xs) (sym c.judge.ensures) (judged le unit task claimed (pos 1000) xs) in
     record { answer = c.judge.ensures; means = means; sound = price_sound le unit task claimed (pos 1000) xs (g.met.T.Tariff.laws c.args.tariff.now) _ means }

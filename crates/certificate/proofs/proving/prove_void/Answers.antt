@@ -1,6 +1,5 @@
 use Rattle.std.proofs.Common.{◌≡◌, pos, sym, ap, ◌∙◌, subst}
 use Rattle.price.specs.Pairs.{zero}
-use Rattle.price.specs.Prices.{pair}
 use Rattle.certificate.specs.Judged.{Judged}
 use Rattle.certificate.specs.Tasks.{task_of}
 use Rattle.certificate.specs.Verdicts.{task_answer}
@@ -11,9 +10,9 @@ pub returns : goal.returns
 returns g c =
     let le = g.T.Tariff.le c.args.tariff.now in
     let unit = g.T.Tariff.unit c.args.tariff.now in
-    let task = task_of c.args.task in
+    let task = task_of c.args.task.now in
     let xs = c.args.tree.now in
-    let none : pair c.price_of.result ≡ zero = c.price_of.ensures in
+    let none : c.price_of.result ≡ zero = c.price_of.ensures in
     let answer = c.judge.ensures ∙ ap (λ p. task_answer le unit task p (pos 0) xs) none in
     let means = subst (Judged le unit task zero (pos 0) xs) (sym answer) (judged le unit task zero (pos 0) xs) in
     record { answer = answer; means = means; sound = void_sound le unit task zero xs (g.met.T.Tariff.laws c.args.tariff.now) _ means }

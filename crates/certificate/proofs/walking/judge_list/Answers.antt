@@ -1,5 +1,4 @@
 use Rattle.std.proofs.Common.{[], Err, sym, ap, ◌∙◌, w32, SFits, rules}
-use Rattle.price.specs.Prices.{pair}
 use Rattle.std.proofs.lemmas.Result.{err_from_is_err_and}
 use Rattle.std.proofs.lemmas.Int.{to_z-of_z}
 use Rattle.certificate.specs.Held.{held}
@@ -13,7 +12,7 @@ use Rattle.certificate.proofs.walking.judge_list.Goals as goal
 
 pub loop-record-init : goal.loop-record-init
 loop-record-init g c =
-    let start = begun c.args.shape.nodes c.args.shape.rows (g.T.Tariff.le c.args.tariff.now) (g.T.Tariff.unit c.args.tariff.now) (task_of c.args.claim.task) (pair c.args.claim.price) c.args.list.now c.requires.1 in
+    let start = begun c.args.shape.nodes c.args.shape.rows (g.T.Tariff.le c.args.tariff.now) (g.T.Tariff.unit c.args.tariff.now) (task_of c.args.claim.task.now) c.args.claim.price.now c.args.list.now c.requires.1 in
     (c.requires.1, moved [] (branches_of c.new-path.result) (sym c.new-path.ensures) start)
 
 pub push-requires-clause-room : goal.push-requires-clause-room
@@ -38,7 +37,7 @@ returns-in_err-judge-in-Leaf g c t fits is =
     let same = leaf_same (g.T.Tariff.le c.args.tariff.now) (g.T.Tariff.unit c.args.tariff.now) leaf.of leaf.lines (simp to_z-of_z at leaf.held) in
     let p = err_from_is_err_and c.from_residual.result c.from_residual.ensures.1 in
     p.1 ∙ ap Err p.2 ∙ sym (at.failed c.in_err-judge-in-Leaf.field-0.0 (same ∙ sym c.in_err-judge-in-Leaf.ensures))
-    ∙ ap (tree_answer (g.T.Tariff.le c.args.tariff.now) (g.T.Tariff.unit c.args.tariff.now) (task_of c.args.claim.task) (pair c.args.claim.price))
+    ∙ ap (tree_answer (g.T.Tariff.le c.args.tariff.now) (g.T.Tariff.unit c.args.tariff.now) (task_of c.args.claim.task.now) c.args.claim.price.now)
     (one_spelling 12 c.args.shape.nodes c.args.shape.rows c.loop-record.invariant.0.of t c.args.list.now c.loop-record.invariant.0.fits fits c.loop-record.invariant.0.is is)
 
 pub loop-record-preserved-in-Split : goal.loop-record-preserved-in-Split
@@ -61,5 +60,5 @@ loop-record-preserved g c =
 pub returns : goal.returns
 returns g c t fits is =
     at_end c.loop-record.path c.loop-record.invariant.1 c.under.ensures c.depth.ensures c.in_default.ensures
-    ∙ ap (tree_answer (g.T.Tariff.le c.args.tariff.now) (g.T.Tariff.unit c.args.tariff.now) (task_of c.args.claim.task) (pair c.args.claim.price))
+    ∙ ap (tree_answer (g.T.Tariff.le c.args.tariff.now) (g.T.Tariff.unit c.args.tariff.now) (task_of c.args.claim.task.now) c.args.claim.price.now)
     (one_spelling 12 c.args.shape.nodes c.args.shape.rows c.loop-record.invariant.0.of t c.args.list.now c.loop-record.invariant.0.fits fits c.loop-record.invariant.0.is is)

@@ -1,4 +1,4 @@
-use Rattle.std.proofs.Common.{◌≡◌, Some, ◌∙◌, rules}
+use Rattle.std.proofs.Common.{◌≡◌, Some, ◌∙◌, rules, arith}
 use Rattle.task.specs.Sides.{untouched}
 use Rattle.task.proofs.Only.{found_none, found_one, found_two}
 use Rattle.task.proofs.sealing.only_free.Goals as goal
@@ -13,5 +13,5 @@ returns-in-Some c =
 
 pub returns-in-None : goal.returns-in-None
 returns-in-None c =
-    let same : c.ok.result ≡ Some c.in_ok-only.only = search rules in
+    let same : c.at.result ≡ Some c.in_ok-only.only = c.at.ensures (omega (arith, c.nodes-count.ensures.few, c.in_ok-only.ensures)) in
     same ∙ rw (← c.nodes-count.ensures.count) (found_one (untouched c.args.side c.args.edges.now) c.nodes-count.result c.in_ok-only.only c.in_ok-only.ensures c.in-None.ensures)

@@ -1,5 +1,4 @@
 -- The rows before have passed.
-use Rattle.std.proofs.Common.{◌≡◌, Ok}
 use Rattle.price.specs.declared.refusals.Refusal.TheVariants.{MultiplierSign}
 use Rattle.certificate.specs.Held.{leaf_held, lines_of}
 use Rattle.certificate.specs.LeafTests.{row_ok}
@@ -7,8 +6,7 @@ use Rattle.certificate.specs.Verdicts.{signs_answer}
 use Rattle.certificate.proofs.Steps.{Passed}
 use Rattle.certificate.proofs.cases.Leaf.ask_signs.Given as goal
 
-abbrev pub invariant-rows : goal.invariant-rows
-invariant-rows g l =
-    (l.answer ≡ Ok tt)
-    × Passed (row_ok (g.T.Tariff.le l.tariff) (leaf_held l.self)) (MultiplierSign l.self.number) (lines_of l.self) l.row l.row
+abbrev pub invariant-loop-row : goal.invariant-loop-row
+invariant-loop-row g l =
+    Passed (row_ok (g.T.Tariff.le l.tariff) (leaf_held l.self)) (MultiplierSign l.self.number) (lines_of l.self) l.row l.row
     (signs_answer (g.T.Tariff.le l.tariff) (lines_of l.self) (leaf_held l.self) l.self.number)

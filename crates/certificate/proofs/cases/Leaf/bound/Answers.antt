@@ -5,4 +5,4 @@ use Rattle.certificate.proofs.cases.Leaf.bound.Goals as goal
 pub returns : goal.returns
 returns c =
     let leaf = c.args.self.now in
-    c.level.ensures ∙ sym (limit_levels leaf.claim.task.edges.now leaf leaf.claim.task.rows.now leaf.path.now leaf.claim.task.start leaf.claim.task.end)
+    c.level.ensures ∙ sym (limit_levels leaf.claim.task.now.edges.now leaf leaf.claim.task.now.rows.now leaf.path.now leaf.claim.task.now.start leaf.claim.task.now.end)

@@ -9,7 +9,7 @@ use Rattle.certificate.proofs.cases.Leaf.charge.Goals as goal
 
 pub loop-i-preserved : goal.loop-i-preserved
 loop-i-preserved c =
-    let rows = c.args.self.now.claim.task.rows.now in
+    let rows = c.args.self.now.claim.task.now.rows.now in
     let path = c.args.self.now.path.now in
     let few : length rows ≤ 24 = c.args.self.now.claim.few in
     let short : length path ≤ 12 = c.args.self.now.few in

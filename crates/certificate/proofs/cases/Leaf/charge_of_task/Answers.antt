@@ -1,7 +1,6 @@
 use Rattle.std.proofs.Common.{◌+ℤ◌, ◌≤◌, length, sym, ap, ◌∙◌, arith, w64, SFits}
 use Rattle.std.proofs.lemmas.Int.{ints, to_z-of_z}
 use Rattle.price.specs.Pairs.{◌⊕◌}
-use Rattle.task.specs.NewRows.{row_of}
 use Rattle.certificate.specs.Columns.{entries, row_entry}
 use Rattle.certificate.specs.Held.{leaf_held}
 use Rattle.certificate.proofs.Entries.{entry_of_row, charged_more}
@@ -9,7 +8,7 @@ use Rattle.certificate.proofs.cases.Leaf.charge_of_task.Goals as goal
 
 pub loop-i-preserved : goal.loop-i-preserved
 loop-i-preserved c =
-    let rows = c.args.self.now.claim.task.rows.now in
+    let rows = c.args.self.now.claim.task.now.rows.now in
     let path = c.args.self.now.path.now in
     let few : length rows ≤ 24 = c.args.self.now.claim.few in
     let was = simp (c.loop-i.cycles-is, c.loop-i.reads-is) at c.loop-i.invariant in
@@ -21,7 +20,7 @@ loop-i-preserved c =
     let e : SFits w64 c.row_entry.result = omega (arith, ints, c.row_entry.ensures.small) in
     let charge = simp to_z-of_z at c.charge_of-charge.ensures.value in
     let more = charged_more (entries c.args.column rows path) (leaf_held c.args.self.now).multipliers c.loop-i.i (c.loop-i.cycles, c.loop-i.reads) c.multiplier.result c.row_entry.result was.0
-    (c.row_entry.ensures.value ∙ ap (λ r. row_entry c.args.column (row_of r)) c.row-item.is ∙ sym (entry_of_row c.args.column rows path c.loop-i.i c.row-item.result (omega arith))) c.multiplier.ensures.value in
+    (c.row_entry.ensures.value ∙ ap (row_entry c.args.column) c.row-item.is ∙ sym (entry_of_row c.args.column rows path c.loop-i.i c.row-item.result (omega arith))) c.multiplier.ensures.value in
     simp (c.loop-i.cycles-is, c.loop-i.reads-is, to_z-of_z) (
       (λ i. (c.loop-i.cycles, c.loop-i.reads) ⊕ charge i) ∙ more,
       ((omega (arith, ints, was.1, each), omega (arith, ints, was.1, each)), (omega (arith, ints, was.1, each), omega (arith, ints, was.1, each))),

@@ -10,14 +10,14 @@ pub returns-then-wants_equality : goal.returns-then-wants_equality
 returns-then-wants_equality g c =
     let m : Pair = multiplier (leaf_held c.args.self.now) c.args.row in
     let le = g.T.Tariff.le c.args.tariff.now in
-    let task = c.args.self.now.claim.task in
+    let task = c.args.self.now.claim.task.now in
     sym (sign_of le task.edges.now m task.rows.now c.args.self.now.path.now c.args.row ∙ ap (λ b. cond b true (le zero m)) (sym c.wants_equality.ensures ∙ c.if-wants_equality.true))
 
 pub returns : goal.returns
 returns g c =
     let m : Pair = multiplier (leaf_held c.args.self.now) c.args.row in
     let le = g.T.Tariff.le c.args.tariff.now in
-    let task = c.args.self.now.claim.task in
+    let task = c.args.self.now.claim.task.now in
     let s = c.multiplier-cycles.ensures.small in
     let f : SFits w64 c.multiplier-cycles.result.0 = omega (arith, ints, s) in
     let h : SFits w64 c.multiplier-cycles.result.1 = omega (arith, ints, s) in

@@ -6,7 +6,7 @@ use Rattle.task.proofs.Spreads.{Marked}
 use Rattle.task.proofs.tasks.Flow.joined_to.Given as goal
 
 abbrev pub invariant-loop-settled : goal.invariant-loop-settled
-invariant-loop-settled l = Marked l.self.edges.now l.self.turns.now l.side l.goal l.marks l.settled
+invariant-loop-settled l = Marked l.self.edges.now l.self.turns.now l.side l.fn.goal l.marks l.settled
 
 abbrev pub decreases-loop-settled : goal.decreases-loop-settled
 decreases-loop-settled l = unmarked l.marks + one_if (not l.settled)

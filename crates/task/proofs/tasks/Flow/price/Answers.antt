@@ -1,10 +1,13 @@
-use Rattle.std.proofs.Common.{subst, arith, rules}
+use Rattle.std.proofs.Common.{ap, subst, arith, rules}
 use Rattle.task.specs.Pricing.{Priced}
+use Rattle.task.proofs.Rests.{edge_read}
 use Rattle.task.proofs.Costs.{adding_more, adding_all, priced_small}
 use Rattle.task.proofs.tasks.Flow.price.Goals as goal
 
 pub loop-x-preserved : goal.loop-x-preserved
-loop-x-preserved c = search (rules, adding_more)
+loop-x-preserved c =
+    let read = edge_read c.args.self.edges.now c.loop-x.x c.index-self-x.result c.index-self-x.is (omega arith) in
+    search (rules, adding_more, ap (λ e. e.cycles) read, ap (λ e. e.reads) read)
 
 pub returns-clause-price : goal.returns-clause-price
 returns-clause-price c = subst (λ a. Priced a c.priced.result)

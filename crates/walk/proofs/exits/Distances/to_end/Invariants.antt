@@ -4,7 +4,7 @@ use Rattle.walk.proofs.Nearest.{Nearing}
 use Rattle.walk.proofs.exits.Distances.to_end.Given as goal
 
 abbrev pub invariant-loop : goal.invariant-loop
-invariant-loop l = Nearing l.flow.edges.now l.flow.turns.now l.end l.table.far false
+invariant-loop l = Nearing l.flow.edges.now l.flow.turns.now l.fn.end l.table.far false
 
 abbrev pub decreases-loop : goal.decreases-loop
 decreases-loop l = sum l.table.far
