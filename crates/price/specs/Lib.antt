@@ -3,8 +3,8 @@ pub mod Ranges
 pub mod Laws
 pub mod Follows
 pub mod Tariffs
-pub mod Refusals
 pub mod Questions
+pub mod Senses
 pub mod CyclesLaws
 pub mod Tests
 pub mod WeightLaws

@@ -1,8 +1,7 @@
 -- The questions of a call, asked in order.
 use Rattle.std.specs.Prelude.{Bool, true, false, Err, Result}
-use Rattle.price.specs.declared.refusals.Refusal.{Refusal}
 
--- one question: if its answer is no, the call refuses, and asks no further
-abbrev pub ask : {A : Type 0} → Bool → Refusal → Result A Refusal → Result A Refusal
+-- one question: if its answer is no, the call refuses with this error, and asks no further
+abbrev pub ask : {A E : Type 0} → Bool → E → Result A E → Result A E
 ask true refusal rest = rest
 ask false refusal rest = Err refusal

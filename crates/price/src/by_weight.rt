@@ -4,8 +4,8 @@ ghost use Rattle.price.specs.Ranges.{Within};
 ghost use Rattle.price.specs.Tariffs.{by_weight, one_cycle, weighed};
 ghost use Rattle.price.specs.WeightLaws.{weight_laws};
 
+use crate::out_of_range::OutOfRange;
 use crate::prices::Price;
-use crate::refusals::Refusal;
 use crate::tariffs::Tariff;
 
 const MAX_WEIGHT: u32 = 255;
@@ -19,13 +19,13 @@ pub struct Weighted {
 
 impl Weighted {
     /// The tariff of this weight, refused above 255.
-    pub fn new(weight: u32) -> Result<Weighted, Refusal>
-        ensures { MatchResult result (λ t. t.weight ≡ weight) (λ e. (e ≡ Refusal.WeightRange) × (255 < weight)) }
+    pub fn new(weight: u32) -> Result<Weighted, OutOfRange>
+        ensures { MatchResult result (λ t. t.weight ≡ weight) (λ e. (e ≡ OutOfRange.Weight) × (255 < weight)) }
     {
         if weight <= MAX_WEIGHT {
             Ok(Weighted { weight })
         } else {
-            Err(Refusal::WeightRange)
+            Err(OutOfRange::Weight)
         }
     }
 

@@ -2,7 +2,7 @@
 ghost use Rattle.std.specs.Prelude.{◌≡◌, T, ◌↔◌, IfOk, MatchResult};
 ghost use Rattle.price.specs.Ranges.{Part};
 
-use crate::refusals::Refusal;
+use crate::out_of_range::OutOfRange;
 use std::marker::Model;
 
 // The largest part of a price, 2^52; the smallest is its negative.
@@ -36,14 +36,14 @@ fn is_part(z: i64) -> bool
 
 impl Price {
     /// The price with these parts, refused where one of them is out of range.
-    pub fn new(cycles: i64, reads: i64) -> Result<Price, Refusal>
-        ensures price { MatchResult result (λ p. p ≡ (cycles, reads)) (λ e. (e ≡ Refusal.PriceRange) × (Part cycles → Part reads → ⊥)) }
+    pub fn new(cycles: i64, reads: i64) -> Result<Price, OutOfRange>
+        ensures price { MatchResult result (λ p. p ≡ (cycles, reads)) (λ e. (e ≡ OutOfRange.Price) × (Part cycles → Part reads → ⊥)) }
         ensures in_range { IfOk result (λ _. (Part cycles) × (Part reads)) }
     {
         if is_part(cycles) && is_part(reads) {
             Ok(Price { cycles, reads })
         } else {
-            Err(Refusal::PriceRange)
+            Err(OutOfRange::Price)
         }
     }
 

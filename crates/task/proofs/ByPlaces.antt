@@ -1,12 +1,14 @@
 -- The turns of a block, the sum of a row and the price of a run, place by place.
-use Rattle.std.proofs.Common.{◌≡◌, ℕ, zero as none, suc, ◌+◌, ◌<◌, Bool, true, false, cond, eqb, List, [], ◌∷◌, get_or, ℤ, pos, ◌+ℤ◌, ◌*ℤ◌, sym, refl, ap, ◌∙◌, subst, inl, inr, add-zero, add-suc, suc-add, zero-add, arith}
+use Rattle.std.proofs.Common.{◌≡◌, ℕ, zero as none, suc, ◌+◌, ◌<◌, Bool, true, false, cond, eqb, List, [], ◌∷◌, length, get_or, ℤ, pos, ◌+ℤ◌, ◌*ℤ◌, sym, refl, ap, ◌∙◌, subst, inl, inr, add-zero, add-suc, suc-add, zero-add, arith}
 use Rattle.std.proofs.lemmas.Int.{ints}
 use Rattle.price.specs.Pairs.{zero, ◌⊕◌, times}
 use Rattle.price.specs.Integers.{*ℤ-+ℤ}
 use Rattle.price.proofs.PairSums.{⊕-zero, zero-⊕, ⊕-cross, no_times, one_times, +-times}
-use Rattle.std.specs.List.{AllByRecursion}
+use Rattle.std.proofs.lemmas.List.Elements.{All-nil, All-cons, All-weaker}
+use Rattle.price.specs.declared.senses.Sense.{Sense}
+use Rattle.price.specs.declared.senses.Sense.TheVariants.{Longest}
 use Rattle.task.specs.declared.edges.Edge.{Edge}
-use Rattle.task.specs.Graph.{head_of, edge_at, Path, Run}
+use Rattle.task.specs.Graph.{no_edge, head_of, edge_at, Path, Run}
 use Rattle.task.specs.Turns.{turns_in, turns_by, block_turns, edge_price, price_of, run_price}
 use Rattle.task.specs.Rows.{Row, weigh, row_sum}
 use Rattle.task.specs.Places.{Exist, coefficients_along, prices_along, places_of}
@@ -16,8 +18,8 @@ use Rattle.task.proofs.Linear.{spot, Linear, Counts, by_places}
 -- ---- the edges of a run exist
 
 path_exists : (es : List Edge) (u w : ℕ) (xs : List ℕ) → Path es u w xs → Exist es xs
-path_exists es u w [] p = tt
-path_exists es u w (x ∷ xs) p = (p.0, path_exists es (head_of es x) w xs p.2)
+path_exists es u w [] p = All-nil (λ x. x < length es)
+path_exists es u w (x ∷ xs) p = All-cons (λ x. x < length es) x xs p.0 (path_exists es (head_of es x) w xs p.2)
 
 pub runs_exist : (es : List Edge) (run : List ℕ) → Run es run → Exist es run
 runs_exist es run r = path_exists es r.start r.end run r.leads
@@ -45,33 +47,29 @@ turns_linear p = record {
 }
 
 pub blocks_by_places : (es : List Edge) (run : List ℕ) → Exist es run → (b : ℕ) → block_turns es (turns_in es run) b ≡ places_of es b run
-blocks_by_places es run exist b = by_places (turns_linear (λ e. eqb e.block b)) es (places_of es b) refl (λ x xs. refl) run (count run exist)
-  where
-    count : (xs : List ℕ) → Exist es xs → AllByRecursion (Counts (turns_linear (λ e. eqb e.block b)) es) xs
-    count [] all = tt
-    count (x ∷ xs) all = (inl all.0, count xs all.1)
+blocks_by_places es run exist b = by_places (turns_linear (λ e. eqb e.block b)) es (places_of es b) refl (λ x xs. refl) run (All-weaker (λ x. x < length es) (Counts (turns_linear (λ e. eqb e.block b)) es) (λ x low. inl low) run exist)
 
 -- ---- prices
 
-pub price_linear : Linear zero (λ a b. a ⊕ b) (λ e t. times (pos t) (edge_price e)) price_of
-price_linear = record {
+pub price_linear : (sense : Sense) → Linear zero (λ a b. a ⊕ b) (λ e t. times (pos t) (edge_price sense e)) (price_of sense)
+price_linear sense = record {
   no_edges = λ ts. refl;
   turns_end = λ e es. refl;
   one_more = λ e es t ts. refl;
-  no_turns = λ e. no_times (edge_price e);
-  more_turns = λ e m n. +-times (pos m) (pos n) (edge_price e);
+  no_turns = λ e. no_times (edge_price sense e);
+  more_turns = λ e m n. +-times (pos m) (pos n) (edge_price sense e);
   add_none = ⊕-zero;
   none_add = zero-⊕;
   crosses = ⊕-cross;
 }
 
-pub prices_by_places : (es : List Edge) (run : List ℕ) → run_price es run ≡ prices_along es run
-prices_by_places es run =
-    by_places price_linear es (prices_along es) refl (λ x xs. ap (λ a. a ⊕ prices_along es xs) (sym (one_times (edge_price (edge_at es x))))) run (count run)
-  where
-    count : (xs : List ℕ) → AllByRecursion (Counts price_linear es) xs
-    count [] = tt
-    count (x ∷ xs) = (inr refl, count xs)
+-- what a number past the last edge reads as costs nothing in any sense
+costs_nothing : (sense : Sense) → times (pos 1) (edge_price sense no_edge) ≡ zero
+costs_nothing Longest = refl
+
+pub prices_by_places : (sense : Sense) (es : List Edge) (run : List ℕ) → run_price sense es run ≡ prices_along sense es run
+prices_by_places sense es run =
+    by_places (price_linear sense) es (prices_along sense es) refl (λ x xs. ap (λ a. a ⊕ prices_along sense es xs) (sym (one_times (edge_price sense (edge_at es x))))) run (λ k d low. inr (costs_nothing sense))
 
 -- ---- rows
 

@@ -1,9 +1,9 @@
 -- What the answer of `check_turns` says.
 use Rattle.std.proofs.Common.{◌≡◌, ℕ, Bool, true, false, eqb, ◌↔◌, List, length, get_or, Some, None, Ok, Option, Result, sym, refl, subst, arith}
 use Rattle.price.specs.Questions.{ask}
-use Rattle.price.specs.declared.refusals.Refusal.{Refusal}
-use Rattle.price.specs.declared.refusals.Refusal.TheVariants.{TurnsCount, TurnsRange, Unbalanced, Stranded, RowBroken}
-use Rattle.std.proofs.ByRecursion.{All-get_or, All-from_get_or}
+use Rattle.task.specs.declared.faults.TurnsFault.{TurnsFault}
+use Rattle.task.specs.declared.faults.TurnsFault.TheVariants.{Count, Range, Unbalanced, Stranded, RowBroken}
+use Rattle.std.proofs.lemmas.List.Elements.{All-get_or, All-from_get_or}
 use Rattle.std.proofs.lemmas.Bool.{eqb-true, eqb-false, ltb-true, ltb-false}
 use Rattle.task.specs.declared.edges.Edge.{Edge}
 use Rattle.task.specs.Lowest.{first}
@@ -18,13 +18,13 @@ use Rattle.task.proofs.Flows.{balance, no_balance, onward, not_onward, keeping, 
 module _ (es : List Edge) (rows : List Row) (start end : ℕ) (ts : List ℕ) where
   -- ---- the answer, from the last question to the first
 
-  kept_next : Result (Unit {0}) Refusal
+  kept_next : Result (Unit {0}) TurnsFault
   kept_next = unless RowBroken (first (broken es rows ts) (length rows)) (Ok tt)
 
-  onward_next : Result (Unit {0}) Refusal
+  onward_next : Result (Unit {0}) TurnsFault
   onward_next = unless Stranded (first (stranded es end ts) (length es)) kept_next
 
-  balance_next : Result (Unit {0}) Refusal
+  balance_next : Result (Unit {0}) TurnsFault
   balance_next = unless Unbalanced (first (unbalanced es start end ts) (node_count es)) onward_next
 
   by_rows : Joined es start end ts → (o : Option ℕ) → First (broken es rows ts) (length rows) o → Checked es rows start end ts (unless RowBroken o (Ok tt))
@@ -57,7 +57,7 @@ module _ (es : List Edge) (rows : List Row) (start end : ℕ) (ts : List ℕ) wh
   by_balance so (Some v) found = node_unbalanced v refl so
       (record { place = below_node es v found.0; fails = no_balance es start end ts v found.1; lowest = λ u low. balance es start end ts u (found.2 u low) })
 
-  by_range : length ts ≡ length es → (o : Option ℕ) → First (over ts) (length es) o → Checked es rows start end ts (unless TurnsRange o balance_next)
+  by_range : length ts ≡ length es → (o : Option ℕ) → First (over ts) (length es) o → Checked es rows start end ts (unless Range o balance_next)
   unfolding balance_next
   by_range sized None none =
       by_balance (record { sized = sized; few = λ x low. ltb-false 1048575 (get_or ts x 0) (none x low) })
@@ -72,16 +72,16 @@ module _ (es : List Edge) (rows : List Row) (start end : ℕ) (ts : List ℕ) wh
   unfolding balance_next onward_next kept_next
   checked = go (eqb (length ts) (length es)) refl
     where
-      go : (b : Bool) → eqb (length ts) (length es) ≡ b → Checked es rows start end ts (ask b TurnsCount (unless TurnsRange (first (over ts) (length es)) balance_next))
+      go : (b : Bool) → eqb (length ts) (length es) ≡ b → Checked es rows start end ts (ask b Count (unless Range (first (over ts) (length es)) balance_next))
       go true h = by_range (eqb-true (length ts) (length es) h) (first (over ts) (length es)) (first_says (over ts) (length es))
       go false h = turns_count refl (eqb-false (length ts) (length es) h)
 
-  pub answers : (r : Result (Unit {0}) Refusal) → r ≡ turns_answer es rows start end ts → Checked es rows start end ts r
+  pub answers : (r : Result (Unit {0}) TurnsFault) → r ≡ turns_answer es rows start end ts → Checked es rows start end ts r
   answers r is = subst (Checked es rows start end ts) (sym is) checked
 
   -- ---- sound turns are accepted, and nothing else
 
-  module _ (r : Result (Unit {0}) Refusal) where
+  module _ (r : Result (Unit {0}) TurnsFault) where
     accepted : Checked es rows start end ts r → r ≡ Ok tt → Sound es rows start end ts
     accepted (turns_count is off) ok = cc
     accepted (turns_range x is sized low) ok = cc

@@ -1,7 +1,8 @@
 -- What the tests of turns say of balance, of the way to the end and of rows.
 use Rattle.std.proofs.Common.{◌≡◌, ℕ, ◌<◌, ◌≤◌, true, false, not, eqb, List, [], ◌∷◌, length, get_or, ℤ, ap, ⊎_elim, arith}
 use Rattle.std.proofs.lemmas.Int.{ints}
-use Rattle.std.specs.List.{AllByRecursion}
+use Rattle.std.specs.List.{All}
+use Rattle.std.proofs.lemmas.List.Elements.{All-nil, All-cons, All-head, All-tail}
 use Rattle.std.proofs.lemmas.List.{get_or_default}
 use Rattle.std.proofs.lemmas.Bool.{both_ways, ne_eqb, ltb-true, lt-ltb, and_parts, and_cases, not-true, not-false, cases_lt}
 use Rattle.std.proofs.lemmas.Bool.Decides.{nat_tests}
@@ -15,7 +16,7 @@ use Rattle.task.specs.Lowest.{one_if}
 use Rattle.task.specs.Rows.{Row, row_sum, Meets, Keeps}
 use Rattle.task.specs.Sealing.{Ends}
 use Rattle.task.specs.Sides.{end_at, is_live, node_count, reaches}
-use Rattle.task.specs.Sound.{Balanced, Reaches, Onward, row_at, Sound, Claim}
+use Rattle.task.specs.Sound.{Balanced, Reaches, Onward, row_at, Sound, Walkable}
 use Rattle.task.specs.TurnsAnswer.{turns_at, unbalanced, stranded, meets, broken}
 use Rattle.task.proofs.Seals.{node_below, below_node, Forth, forth_path, every_edge}
 use Rattle.task.proofs.Spreads.{reached_way, way_reached}
@@ -50,13 +51,13 @@ module _ (es : List Edge) (ts : List ℕ) (sized : length ts ≡ length es) wher
   some_live : (x : ℕ) → x < length es → 0 < get_or ts x 0 → is_live ts x ≡ true
   some_live x low some = lt-ltb 0 (get_or ts x 1) (omega (arith, get_or_default ts x 0 1 (omega arith)))
 
-  forth_all : (xs : List ℕ) (v e : ℕ) → Forth es ts v e xs → AllByRecursion (λ x. 0 < get_or ts x 0) xs
-  forth_all [] v e w = tt
-  forth_all (x ∷ xs) v e w = (live_some x w.0 w.2, forth_all xs (head_of es x) e w.3)
+  forth_all : (xs : List ℕ) (v e : ℕ) → Forth es ts v e xs → All (λ x. 0 < get_or ts x 0) xs
+  forth_all [] v e w = All-nil (λ y. 0 < get_or ts y 0)
+  forth_all (x ∷ xs) v e w = All-cons (λ y. 0 < get_or ts y 0) x xs (live_some x w.0 w.2) (forth_all xs (head_of es x) e w.3)
 
-  path_forth : (xs : List ℕ) (v e : ℕ) → Path es v e xs → AllByRecursion (λ x. 0 < get_or ts x 0) xs → Forth es ts v e xs
+  path_forth : (xs : List ℕ) (v e : ℕ) → Path es v e xs → All (λ x. 0 < get_or ts x 0) xs → Forth es ts v e xs
   path_forth [] v e p all = p
-  path_forth (x ∷ xs) v e p all = (p.0, p.1, some_live x p.0 all.0, path_forth xs (head_of es x) e p.2 all.1)
+  path_forth (x ∷ xs) v e p all = (p.0, p.1, some_live x p.0 (All-head (λ y. 0 < get_or ts y 0) x xs all), path_forth xs (head_of es x) e p.2 (All-tail (λ y. 0 < get_or ts y 0) x xs all))
 
   reached : (e v : ℕ) → reaches es ts Tail e v ≡ true → Reaches es ts e v
   reached e v h = let way = reached_way es ts Tail e v h in (way.0, forth_path es ts way.0 v e way.1, forth_all way.0 v e way.1)
@@ -112,7 +113,7 @@ module _ (es : List Edge) (rows : List Row) (start end : ℕ) (ts : List ℕ) (s
       omega (arith, none_past Head v es ts high, none_past Tail v es ts high, ap one_if s, ap one_if t))
       (cases_lt v (node_count es))
 
-  pub claims : Claim es start end ts
+  pub claims : Walkable es start end ts
   claims = record {
     apart = (every_edge es start end ends).apart;
     no_way_on = ends.end.is.not_left;

@@ -1,6 +1,7 @@
 -- A sum over edges of what each gives for its turns is a sum over the places of the run.
 use Rattle.std.proofs.Common.{◌≡◌, ℕ, zero, suc, ◌+◌, ◌<◌, eqb, ◌⊎◌, List, [], ◌∷◌, length, sym, ap, ◌∙◌, subst, inl, inr, le_of_suc-le-suc, not-suc-le-zero, add-zero, add-suc, suc-add, zero-add, arith}
-use Rattle.std.specs.List.{AllByRecursion}
+use Rattle.std.specs.List.{All}
+use Rattle.std.proofs.lemmas.List.Elements.{All-head, All-tail}
 use Rattle.task.specs.declared.edges.Edge.{Edge}
 use Rattle.task.specs.Graph.{no_edge, edge_at}
 use Rattle.task.specs.Lowest.{one_if}
@@ -71,9 +72,9 @@ module _ {A : Type 0} {none : A} {add : A → A → A} {gives : Edge → ℕ →
 
   module _ (es : List Edge) (sum : List ℕ → A) (sum_none : sum [] ≡ none)
       (sum_more : (x : ℕ) (run : List ℕ) → sum (x ∷ run) ≡ add (gives (edge_at es x) 1) (sum run)) where
-    pub by_places : (run : List ℕ) → AllByRecursion (Counts es) run → total es (turns_in es run) ≡ sum run
+    pub by_places : (run : List ℕ) → All (Counts es) run → total es (turns_in es run) ≡ sum run
     by_places [] all = at_none 0 es ∙ sym sum_none
     by_places (x ∷ run) all =
         at_more x run 0 es
-        ∙ (λ j. add (subst (λ n. total es (spots n 0 es) ≡ gives (edge_at es x) 1) (zero-add x) (at_edge es x 0 all.0) j) (by_places run all.1 j))
+        ∙ (λ j. add (subst (λ n. total es (spots n 0 es) ≡ gives (edge_at es x) 1) (zero-add x) (at_edge es x 0 (All-head (Counts es) x run all)) j) (by_places run (All-tail (Counts es) x run all) j))
         ∙ sym (sum_more x run)

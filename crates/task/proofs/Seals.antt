@@ -4,7 +4,7 @@ use Rattle.std.proofs.lemmas.Bool.{both_ways, eqb-true, eq-eqb, or_cases, or_lef
 use Rattle.task.specs.declared.edges.Edge.{Edge}
 use Rattle.task.specs.declared.edges.Side.{Side}
 use Rattle.task.specs.declared.edges.Side.TheVariants.{Tail, Head}
-use Rattle.price.specs.declared.refusals.Refusal.{Refusal}
+use Rattle.task.specs.declared.faults.GraphFault.{GraphFault}
 use Rattle.task.specs.Lowest.{sole, first}
 use Rattle.task.specs.Ways.{Way}
 use Rattle.task.specs.Graph.{tail_of, head_of, Node, Start, End, Path}
@@ -162,7 +162,7 @@ module _ (es : List Edge) where
 
   -- ---- the ends are accepted, and nothing else
 
-  module _ (r : Result (ℕ × ℕ) Refusal) (s e : ℕ) where
+  module _ (r : Result (ℕ × ℕ) GraphFault) (s e : ℕ) where
     same_ends : (a b : ℕ) → r ≡ Ok (a, b) → r ≡ Ok (s, e) → ◌≡◌ {A = ℕ × ℕ} (a, b) (s, e)
     same_ends a b p q = cc
 

@@ -4,7 +4,7 @@ use Rattle.task.specs.declared.edges.Edge.{Edge}
 
 -- what a number past the last edge reads as; no path takes it
 abbrev pub no_edge : Edge
-no_edge = record { tail = 0; head = 0; block = 0; cycles = 0; reads = 0 }
+no_edge = record { tail = 0; head = 0; block = 0; price = record { cycles = 0; reads = 0 } }
 
 abbrev pub edge_at : List Edge → ℕ → Edge
 edge_at es x = slice_index_or es x no_edge

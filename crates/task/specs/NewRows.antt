@@ -1,8 +1,8 @@
 -- The questions about a new row.
 use Rattle.std.specs.Prelude.{zero, suc, ◌-◌, ◌&&◌, List, ◌++◌, length, replicate, ℤ, pos, Some, None, Ok, Err, Option, Result, nat_le}
 use Rattle.price.specs.Questions.{ask}
-use Rattle.price.specs.declared.refusals.Refusal.{Refusal}
-use Rattle.price.specs.declared.refusals.Refusal.TheVariants.{RowRelation, RowNumbers}
+use Rattle.task.specs.declared.faults.RowFault.{RowFault}
+use Rattle.task.specs.declared.faults.RowFault.TheVariants.{Relation as NoRelation, Numbers}
 use Rattle.task.specs.declared.rows.Relation.{Relation}
 use Rattle.task.specs.declared.rows.Relation.TheVariants.{Below, AtMost, Equal}
 use Rattle.task.specs.Coefficients.{in_range, all_small}
@@ -15,24 +15,24 @@ relation_of (pos (suc zero)) = Some AtMost
 relation_of (pos (suc (suc zero))) = Some Equal
 relation_of other = None
 
-abbrev pub or_refused : Option Relation → Result Relation Refusal
+abbrev pub or_refused : Option Relation → Result Relation RowFault
 or_refused (Some relation) = Ok relation
-or_refused None = Err RowRelation
+or_refused None = Err NoRelation
 
 -- the relation of a number, or the question that it fails
-abbrev pub related : ℤ → Result Relation Refusal
+abbrev pub related : ℤ → Result Relation RowFault
 related n = or_refused (relation_of n)
 
 -- a coefficient for each of 64 blocks: 0 past the list
 abbrev pub padded : List ℤ → List ℤ
 padded cs = cs ++ replicate (64 - length cs) (pos 0)
 
-abbrev row_with : Option Relation → ℤ → List ℤ → Result Row Refusal
-row_with None k cs = Err RowRelation
+abbrev row_with : Option Relation → ℤ → List ℤ → Result Row RowFault
+row_with None k cs = Err NoRelation
 row_with (Some relation) k cs =
-    ask (in_range 1048576 k && (nat_le (length cs) 64 && all_small cs)) RowNumbers
+    ask (in_range 1048576 k && (nat_le (length cs) 64 && all_small cs)) Numbers
     (Ok (record { relation = relation; k = k; coefficients = padded cs }))
 
 -- a row of these numbers, or the question that they fail
-abbrev pub row_made : ℤ → ℤ → List ℤ → Result Row Refusal
+abbrev pub row_made : ℤ → ℤ → List ℤ → Result Row RowFault
 row_made relation k cs = row_with (relation_of relation) k cs

@@ -1,7 +1,7 @@
 -- Sums over the places of a run.
-use Rattle.std.specs.Prelude.{ℕ, ◌+◌, ◌<◌, cond, List, [], ◌∷◌, length, ℤ, pos, ◌+ℤ◌, ◌==◌}
+use Rattle.std.specs.Prelude.{ℕ, ◌+◌, ◌<◌, cond, List, [], ◌∷◌, length, ℤ, pos, ◌+ℤ◌, ◌==◌, All}
 use Rattle.price.specs.Pairs.{Pair, zero, ◌⊕◌}
-use Rattle.std.specs.List.{AllByRecursion}
+use Rattle.price.specs.declared.senses.Sense.{Sense}
 use Rattle.task.specs.declared.edges.Edge.{Edge}
 use Rattle.task.specs.Graph.{edge_at}
 use Rattle.task.specs.Turns.{edge_price}
@@ -9,7 +9,7 @@ use Rattle.task.specs.Rows.{Row, coefficient}
 
 -- these numbers are edges
 abbrev pub Exist : List Edge → List ℕ → Type 0
-Exist es run = AllByRecursion (λ x. x < length es) run
+Exist es run = All (λ x. x < length es) run
 
 -- the coefficients of the blocks at the places of the run, added up
 abbrev pub coefficients_along : List Edge → Row → List ℕ → ℤ
@@ -17,9 +17,9 @@ coefficients_along es row [] = pos 0
 coefficients_along es row (x ∷ run) = coefficient row (edge_at es x).block +ℤ coefficients_along es row run
 
 -- the prices of the edges at the places of the run, added up
-abbrev pub prices_along : List Edge → List ℕ → Pair
-prices_along es [] = zero
-prices_along es (x ∷ run) = edge_price (edge_at es x) ⊕ prices_along es run
+abbrev pub prices_along : Sense → List Edge → List ℕ → Pair
+prices_along sense es [] = zero
+prices_along sense es (x ∷ run) = edge_price sense (edge_at es x) ⊕ prices_along sense es run
 
 -- the number of places of the run whose edge carries the block
 abbrev pub places_of : List Edge → ℕ → List ℕ → ℕ

@@ -1,6 +1,5 @@
 -- The rows of a task, and the runs that keep them.
-use Rattle.std.specs.Prelude.{◌≡◌, ℕ, suc, true, List, [], ◌∷◌, length, ℤ, pos, ◌+ℤ◌, ◌*ℤ◌, ◌≤ℤ◌, ◌<ℤ◌, slice_index_or}
-use Rattle.std.specs.List.{AllByRecursion}
+use Rattle.std.specs.Prelude.{◌≡◌, ℕ, suc, true, List, [], ◌∷◌, length, ℤ, pos, ◌+ℤ◌, ◌*ℤ◌, ◌≤ℤ◌, ◌<ℤ◌, slice_index_or, All}
 use Rattle.price.specs.Ranges.{Within}
 use Rattle.task.specs.Coefficients.{all_small}
 use Rattle.task.specs.declared.edges.Edge.{Edge}
@@ -46,4 +45,4 @@ Keeps es ts row = Meets row.relation (row_sum es row ts) row.k
 -- a run that keeps every row
 pub record KeepsAll (es : List Edge) (rows : List Row) (run : List ℕ) : Type 0 where
   pub is_run : Run es run
-  pub keeps : AllByRecursion (Keeps es (turns_in es run)) rows
+  pub keeps : All (Keeps es (turns_in es run)) rows

@@ -1,7 +1,7 @@
 -- The two ends of a graph, and every node on a path between them.
 use Rattle.std.specs.Prelude.{◌≡◌, ℕ, ◌<◌, List, length, Ok, Err, Result}
-use Rattle.price.specs.declared.refusals.Refusal.{Refusal}
-use Rattle.price.specs.declared.refusals.Refusal.TheVariants.{NotOneStart, NotOneEnd, NodeAstray}
+use Rattle.task.specs.declared.faults.GraphFault.{GraphFault}
+use Rattle.task.specs.declared.faults.GraphFault.TheVariants.{NotOneStart, NotOneEnd, NodeAstray}
 use Rattle.task.specs.declared.edges.Edge.{Edge}
 use Rattle.task.specs.Graph.{tail_of, head_of, Node, Start, End, Path}
 
@@ -39,7 +39,7 @@ pub record LowestAstray (es : List Edge) (v : ℕ) : Type 0 where
   pub lowest : (u : ℕ) → u < v → OnPath es start end u
 
 -- what each answer says; the questions are asked in this order, and there is no other answer
-pub data Sealed (es : List Edge) (answer : Result (ℕ × ℕ) Refusal) : Type 0 where
+pub data Sealed (es : List Edge) (answer : Result (ℕ × ℕ) GraphFault) : Type 0 where
   not_one_start : answer ≡ Err NotOneStart → ((s : ℕ) → OneStart es s → ⊥) → Sealed es answer
   not_one_end : answer ≡ Err NotOneEnd → (s : ℕ) → OneStart es s → ((e : ℕ) → OneEnd es e → ⊥) → Sealed es answer
   node_astray : (v : ℕ) → answer ≡ Err (NodeAstray v) → LowestAstray es v → Sealed es answer

@@ -1,8 +1,7 @@
 -- Turns that are sound: as many as edges, in range, balanced at every node, joined to the end, and keeping every row.
-use Rattle.std.specs.Prelude.{◌≡◌, ℕ, ◌+◌, ◌<◌, ◌≤◌, List, [], length, pos, Ok, Err, Result, ◌==◌, ◌≢◌, nat_eq, slice_index, slice_index_or}
-use Rattle.price.specs.declared.refusals.Refusal.{Refusal}
-use Rattle.price.specs.declared.refusals.Refusal.TheVariants.{TurnsCount, TurnsRange, Unbalanced, Stranded, RowBroken}
-use Rattle.std.specs.List.{AllByRecursion}
+use Rattle.std.specs.Prelude.{◌≡◌, ℕ, ◌+◌, ◌<◌, ◌≤◌, List, [], length, pos, Ok, Err, Result, ◌==◌, ◌≢◌, nat_eq, slice_index, slice_index_or, All}
+use Rattle.task.specs.declared.faults.TurnsFault.{TurnsFault}
+use Rattle.task.specs.declared.faults.TurnsFault.TheVariants.{Count, Range, Unbalanced, Stranded, RowBroken}
 use Rattle.task.specs.declared.edges.Edge.{Edge}
 use Rattle.task.specs.declared.rows.Relation.TheVariants.{Equal}
 use Rattle.task.specs.Graph.{tail_of, head_of, Node, Path}
@@ -32,7 +31,7 @@ Balanced es start end ts v = entering es ts v + one_if (v == start) ≡ leaving 
 
 -- the end is reached from v over edges with turns
 abbrev pub Reaches : List Edge → List ℕ → ℕ → ℕ → Type 0
-Reaches es ts end v = (xs : List ℕ) × Path es v end xs × AllByRecursion (λ x. 0 < slice_index ts x) xs
+Reaches es ts end v = (xs : List ℕ) × Path es v end xs × All (λ x. 0 < slice_index ts x) xs
 
 -- from the head of edge x, if it has turns, the end is reached over edges with turns
 abbrev pub Onward : List Edge → ℕ → List ℕ → ℕ → Type 0
@@ -50,10 +49,10 @@ pub record Sound (es : List Edge) (rows : List Row) (start end : ℕ) (ts : List
   pub few : AllInRange es ts
   pub balanced : (v : ℕ) → Node es v → Balanced es start end ts v
   pub onward : (x : ℕ) → x < length es → Onward es end ts x
-  pub keeps : AllByRecursion (Keeps es ts) rows
+  pub keeps : All (Keeps es ts) rows
 
--- what the turns of a claim show between the two ends of a graph
-pub record Claim (es : List Edge) (start end : ℕ) (claimed : List ℕ) : Type 0 where
+-- turns that a walk between the two ends of a graph can use up
+pub record Walkable (es : List Edge) (start end : ℕ) (claimed : List ℕ) : Type 0 where
   pub apart : start ≡ end → ⊥
   pub no_way_on : (x : ℕ) → x < length es → tail_of es x ≢ end
   pub sized : length claimed ≡ length es
@@ -84,9 +83,9 @@ pub record Joined (es : List Edge) (start end : ℕ) (ts : List ℕ) : Type 0 wh
   pub onward : (x : ℕ) → x < length es → Onward es end ts x
 
 -- what each answer says; the questions are asked in this order, and there is no other answer
-pub data Checked (es : List Edge) (rows : List Row) (start end : ℕ) (ts : List ℕ) (answer : Result (Unit {0}) Refusal) : Type 0 where
-  turns_count : answer ≡ Err TurnsCount → (length ts ≢ length es) → Checked es rows start end ts answer
-  turns_range : (x : ℕ) → answer ≡ Err (TurnsRange x) → length ts ≡ length es → LowestFailing (λ y. y < length es) (InRange ts) x → Checked es rows start end ts answer
+pub data Checked (es : List Edge) (rows : List Row) (start end : ℕ) (ts : List ℕ) (answer : Result (Unit {0}) TurnsFault) : Type 0 where
+  turns_count : answer ≡ Err Count → (length ts ≢ length es) → Checked es rows start end ts answer
+  turns_range : (x : ℕ) → answer ≡ Err (Range x) → length ts ≡ length es → LowestFailing (λ y. y < length es) (InRange ts) x → Checked es rows start end ts answer
   node_unbalanced : (v : ℕ) → answer ≡ Err (Unbalanced v) → Counted es ts → LowestFailing (Node es) (Balanced es start end ts) v → Checked es rows start end ts answer
   edge_stranded : (x : ℕ) → answer ≡ Err (Stranded x) → Flowing es start end ts → LowestFailing (λ y. y < length es) (Onward es end ts) x → Checked es rows start end ts answer
   row_broken : (i : ℕ) → answer ≡ Err (RowBroken i) → Joined es start end ts → LowestFailing (λ j. j < length rows) (λ j. Keeps es ts (row_at rows j)) i → Checked es rows start end ts answer

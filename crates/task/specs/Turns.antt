@@ -1,6 +1,9 @@
 -- The turns of edges and of blocks, and what they cost.
 use Rattle.std.specs.Prelude.{ℕ, suc, ◌+◌, Bool, cond, List, [], ◌∷◌, pos, ◌==◌, nat_eq}
 use Rattle.price.specs.Pairs.{Pair, zero, ◌⊕◌, times}
+use Rattle.price.specs.declared.senses.Sense.{Sense}
+use Rattle.price.specs.declared.senses.Sense.TheVariants.{Longest}
+use Rattle.task.specs.declared.edges.Cost.{Cost}
 use Rattle.task.specs.declared.edges.Edge.{Edge}
 
 -- the turns of edge x: its number of places in the run
@@ -27,15 +30,18 @@ turns_by p (e ∷ es) (t ∷ ts) = cond (p e) t 0 + turns_by p es ts
 abbrev pub block_turns : List Edge → List ℕ → ℕ → ℕ
 block_turns es ts b = turns_by (λ e. nat_eq e.block b) es ts
 
--- the price of one turn
-abbrev pub edge_price : Edge → Pair
-edge_price e = (pos e.cycles, pos e.reads)
+-- the price of one turn that counts in this sense
+abbrev pub price_in : Sense → Edge → Cost
+price_in Longest e = e.price
+
+abbrev pub edge_price : Sense → Edge → Pair
+edge_price sense e = (pos (price_in sense e).cycles, pos (price_in sense e).reads)
 
 -- every edge's price times its turns, added up
-abbrev pub price_of : List Edge → List ℕ → Pair
-price_of [] ts = zero
-price_of (e ∷ es) [] = zero
-price_of (e ∷ es) (t ∷ ts) = times (pos t) (edge_price e) ⊕ price_of es ts
+abbrev pub price_of : Sense → List Edge → List ℕ → Pair
+price_of sense [] ts = zero
+price_of sense (e ∷ es) [] = zero
+price_of sense (e ∷ es) (t ∷ ts) = times (pos t) (edge_price sense e) ⊕ price_of sense es ts
 
-abbrev pub run_price : List Edge → List ℕ → Pair
-run_price es run = price_of es (turns_in es run)
+abbrev pub run_price : Sense → List Edge → List ℕ → Pair
+run_price sense es run = price_of sense es (turns_in es run)

@@ -1,8 +1,8 @@
 -- The answer of the questions about turns. To compute with.
 use Rattle.std.specs.Prelude.{ℕ, ◌+◌, Bool, not, ◌&&◌, List, length, ℤ, Some, None, Ok, Err, Option, Result, ◌==◌, int_le, int_lt, nat_eq, nat_lt, slice_index}
 use Rattle.price.specs.Questions.{ask}
-use Rattle.price.specs.declared.refusals.Refusal.{Refusal}
-use Rattle.price.specs.declared.refusals.Refusal.TheVariants.{TurnsCount, TurnsRange, Unbalanced, Stranded, RowBroken}
+use Rattle.task.specs.declared.faults.TurnsFault.{TurnsFault}
+use Rattle.task.specs.declared.faults.TurnsFault.TheVariants.{Count, Range, Unbalanced, Stranded, RowBroken}
 use Rattle.task.specs.declared.edges.Edge.{Edge}
 use Rattle.task.specs.declared.edges.Side.{Side}
 use Rattle.task.specs.declared.edges.Side.TheVariants.{Tail, Head}
@@ -42,14 +42,14 @@ abbrev pub broken : List Edge → List Row → List ℕ → ℕ → Bool
 broken es rows ts i = not (kept es ts (row_at rows i))
 
 -- one question of each place: the lowest that fails it is refused
-abbrev pub unless : (ℕ → Refusal) → Option ℕ → Result (Unit {0}) Refusal → Result (Unit {0}) Refusal
+abbrev pub unless : (ℕ → TurnsFault) → Option ℕ → Result (Unit {0}) TurnsFault → Result (Unit {0}) TurnsFault
 unless refusal (Some place) rest = Err (refusal place)
 unless refusal None rest = rest
 
-abbrev pub turns_answer : List Edge → List Row → ℕ → ℕ → List ℕ → Result (Unit {0}) Refusal
+abbrev pub turns_answer : List Edge → List Row → ℕ → ℕ → List ℕ → Result (Unit {0}) TurnsFault
 turns_answer es rows start end ts =
-    ask (length ts == length es) TurnsCount
-    (unless TurnsRange (first (over ts) (length es))
+    ask (length ts == length es) Count
+    (unless Range (first (over ts) (length es))
     (unless Unbalanced (first (unbalanced es start end ts) (node_count es))
     (unless Stranded (first (stranded es end ts) (length es))
     (unless RowBroken (first (broken es rows ts) (length rows))

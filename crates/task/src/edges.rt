@@ -3,11 +3,30 @@ ghost use Rattle.std.specs.Prelude.{◌≡◌, Decides, nat_le};
 ghost use Rattle.price.specs.Questions.{ask};
 ghost use Rattle.task.specs.Edges.{edge_made, repeated, Repeats};
 ghost use Rattle.task.specs.Sides.{end_at, other_side};
+ghost use Rattle.task.specs.Turns.{price_in};
 
+use crate::faults::EdgeFault;
 use crate::numbers::Node;
-use price::Refusal;
+use price::Sense;
 
 const MAX_BLOCK: u8 = 63;
+
+/// The numbers of a new edge as they come, before they are asked for their ranges: a tail, a head, a block, and what a turn costs.
+#[derive(Clone, Copy, Debug, PartialEq, Eq)]
+pub struct NewEdge {
+    pub tail: u32,
+    pub head: u32,
+    pub block: u32,
+    pub cycles: u32,
+    pub reads: u32,
+}
+
+/// What one turn of an edge costs.
+#[derive(Clone, Copy, Debug, PartialEq, Eq)]
+pub struct Cost {
+    pub cycles: u16,
+    pub reads: u16,
+}
 
 /// An edge from one node to another: the block that it carries, and the price of a turn.
 #[derive(Clone, Copy, Debug, PartialEq, Eq)]
@@ -15,8 +34,7 @@ pub struct Edge {
     pub tail: Node,
     pub head: Node,
     pub block: u8,
-    pub cycles: u16,
-    pub reads: u16,
+    pub price: Cost,
 }
 
 // The two ends of an edge: the contracts speak of a side, which two closures would not name.
@@ -27,34 +45,45 @@ pub(crate) enum Side {
 }
 
 // The number of a block.
-fn numbered(number: u32) -> Result<u8, Refusal>
-    ensures { result ≡ ask (nat_le number 63) Refusal.EdgeNumbers (Ok number) }
+fn numbered(number: u32) -> Result<u8, EdgeFault>
+    ensures { result ≡ ask (nat_le number 63) EdgeFault.Numbers (Ok number) }
 {
     u8::try_from(number)
         .ok()
         .filter(|number| *number <= MAX_BLOCK)
-        .ok_or(Refusal::EdgeNumbers)
+        .ok_or(EdgeFault::Numbers)
 }
 
 // One part of an edge's price.
-fn part(number: u32) -> Result<u16, Refusal>
-    ensures { result ≡ ask (nat_le number 65535) Refusal.EdgePrice (Ok number) }
+fn part(number: u32) -> Result<u16, EdgeFault>
+    ensures { result ≡ ask (nat_le number 65535) EdgeFault.Price (Ok number) }
 {
-    u16::try_from(number).map_err(|_| Refusal::EdgePrice)
+    u16::try_from(number).map_err(|_| EdgeFault::Price)
 }
 
 impl Edge {
     /// The edge of these numbers: nodes at most 31, a block at most 63, and at most 65,535 cycles and reads.
-    pub fn new(tail: u32, head: u32, block: u32, cycles: u32, reads: u32) -> Result<Edge, Refusal>
-        ensures { result ≡ edge_made tail head block cycles reads }
+    pub fn new(numbers: NewEdge) -> Result<Edge, EdgeFault>
+        ensures { result ≡ edge_made numbers }
     {
         Ok(Edge {
-            tail: Node::new(tail)?,
-            head: Node::new(head)?,
-            block: numbered(block)?,
-            cycles: part(cycles)?,
-            reads: part(reads)?,
+            tail: Node::new(numbers.tail)?,
+            head: Node::new(numbers.head)?,
+            block: numbered(numbers.block)?,
+            price: Cost {
+                cycles: part(numbers.cycles)?,
+                reads: part(numbers.reads)?,
+            },
         })
+    }
+
+    /// The price of a turn that counts in this sense.
+    pub fn price(&self, sense: Sense) -> Cost
+        ensures { result ≡ price_in sense self.now }
+    {
+        match sense {
+            Sense::Longest => self.price,
+        }
     }
 
     // The node on that side.

@@ -2,6 +2,7 @@
 #![tactic(auto)]
 
 mod edges;
+mod faults;
 mod keeping;
 mod laws;
 mod new_rows;
@@ -13,7 +14,8 @@ mod spreading;
 mod tasks;
 mod turns;
 
-pub use edges::{Edge, repeats};
+pub use edges::{Cost, Edge, NewEdge, repeats};
+pub use faults::{EdgeFault, GraphFault, RowFault, TurnsFault};
 pub use laws::sums_go_by_places;
 pub use numbers::{NODES, Node};
 pub use rows::{BLOCKS, Relation, Row};

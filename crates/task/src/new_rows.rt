@@ -3,8 +3,8 @@ ghost use Rattle.std.specs.Prelude.{◌≡◌, ◌≤◌, length};
 ghost use Rattle.task.specs.Coefficients.{all_small};
 ghost use Rattle.task.specs.NewRows.{padded, related, row_made};
 
+use crate::faults::RowFault;
 use crate::rows::{BLOCKS, Relation, Row};
-use price::Refusal;
 
 const MAX_COEFFICIENT: i32 = 1_000;
 
@@ -29,23 +29,23 @@ fn with_zeros(coefficients: &[i32]) -> [i32; BLOCKS]
 }
 
 impl TryFrom<i32> for Relation {
-    type Error = Refusal;
+    type Error = RowFault;
 
     ghost try_from_gives = { λ number made. made ≡ related number };
 
-    fn try_from(number: i32) -> Result<Relation, Refusal> {
+    fn try_from(number: i32) -> Result<Relation, RowFault> {
         match number {
             0 => Ok(Relation::Below),
             1 => Ok(Relation::AtMost),
             2 => Ok(Relation::Equal),
-            _ => Err(Refusal::RowRelation),
+            _ => Err(RowFault::Relation),
         }
     }
 }
 
 impl Row {
     /// The row of these numbers: a relation (0: below k, 1: at most k, 2: equal to k), k, and the coefficients of the first blocks, 0 for all others.
-    pub fn new(relation: i32, k: i32, coefficients: &[i32]) -> Result<Row, Refusal>
+    pub fn new(relation: i32, k: i32, coefficients: &[i32]) -> Result<Row, RowFault>
         ensures { result ≡ row_made relation k coefficients.now }
     {
         let relation = Relation::try_from(relation)?;
@@ -53,7 +53,7 @@ impl Row {
             || coefficients.len() > BLOCKS
             || !are_small(coefficients)
         {
-            return Err(Refusal::RowNumbers);
+            return Err(RowFault::Numbers);
         }
         Ok(Row {
             relation,

@@ -2,7 +2,7 @@
 ghost use Rattle.std.specs.Prelude.{◌≡◌, ◌<◌, ◌≤◌, nat_le, Ok, Some};
 ghost use Rattle.price.specs.Questions.{ask};
 
-use price::Refusal;
+use crate::faults::EdgeFault;
 use std::marker::Model;
 
 /// As many nodes as there are numbers for: the length of each table by nodes. These are arrays, since judging takes no memory.
@@ -30,12 +30,12 @@ impl Model for Node {
 
 impl Node {
     /// The node of this number, refused above 31.
-    pub fn new(number: u32) -> Result<Node, Refusal>
-        ensures { result ≡ ask (nat_le number 31) Refusal.EdgeNumbers (Ok number) }
+    pub fn new(number: u32) -> Result<Node, EdgeFault>
+        ensures { result ≡ ask (nat_le number 31) EdgeFault.Numbers (Ok number) }
     {
         match u8::try_from(number) {
             Ok(number) if number <= MAX_NODE => Ok(Node { number }),
-            _ => Err(Refusal::EdgeNumbers),
+            _ => Err(EdgeFault::Numbers),
         }
     }
 

@@ -6,9 +6,9 @@ ghost use Rattle.task.specs.Sealing.{Ends, EveryEdge, Sealed};
 ghost use Rattle.task.specs.Sides.{node_count, touched, untouched};
 
 use crate::edges::{Edge, Side};
+use crate::faults::GraphFault;
 use crate::numbers::Node;
 use crate::tasks::Flow;
-use price::Refusal;
 
 /// How many nodes there are: one more than the highest number that an edge names.
 pub fn nodes(edges: &[Edge]) -> usize
@@ -60,19 +60,19 @@ fn first_astray(edges: &[Edge], start: Node, end: Node) -> Option<usize>
 }
 
 // The questions in their order.
-fn find_ends(edges: &[Edge]) -> Result<(Node, Node), Refusal>
+fn find_ends(edges: &[Edge]) -> Result<(Node, Node), GraphFault>
     ensures { result ≡ ends_answer edges.now }
 {
-    let start = only_free(edges, Side::Head).ok_or(Refusal::NotOneStart)?;
-    let end = only_free(edges, Side::Tail).ok_or(Refusal::NotOneEnd)?;
+    let start = only_free(edges, Side::Head).ok_or(GraphFault::NotOneStart)?;
+    let end = only_free(edges, Side::Tail).ok_or(GraphFault::NotOneEnd)?;
     match first_astray(edges, start, end) {
-        Some(node) => Err(Refusal::NodeAstray { node }),
+        Some(node) => Err(GraphFault::NodeAstray { node }),
         None => Ok((start, end)),
     }
 }
 
 /// The start and the end, as a pair: the only node that no edge enters, and the only one that no edge leaves. Every node lies on a path between them.
-pub fn ends(edges: &[Edge]) -> Result<(Node, Node), Refusal>
+pub fn ends(edges: &[Edge]) -> Result<(Node, Node), GraphFault>
     ensures answer { result ≡ ends_answer edges.now }
     ensures means { Sealed edges.now result }
     ensures exact { (start end : ℕ) → (result ≡ Ok (start, end)) ↔ Ends edges.now start end }

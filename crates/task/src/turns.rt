@@ -3,14 +3,14 @@ ghost use Rattle.std.specs.Prelude.{◌≡◌, ◌*◌, ◌^◌, ◌≤◌, ◌�
 ghost use Rattle.task.specs.Lowest.{first};
 ghost use Rattle.task.specs.Sealing.{Ends};
 ghost use Rattle.task.specs.Sides.{node_count};
-ghost use Rattle.task.specs.Sound.{Checked, Claim, Sound};
+ghost use Rattle.task.specs.Sound.{Checked, Sound, Walkable};
 ghost use Rattle.task.specs.TurnsAnswer.{over, stranded, turns_answer, turns_at, unbalanced};
 
 use crate::edges::Side;
+use crate::faults::TurnsFault;
 use crate::numbers::Node;
 use crate::sealing::nodes;
 use crate::tasks::{Flow, Task};
-use price::Refusal;
 
 const MAX_TURNS: u32 = 1_048_575;
 
@@ -66,37 +66,37 @@ impl Flow<'_> {
 
 impl Task<'_> {
     // The questions in their order.
-    fn ask_turns(&self, turns: &[u32]) -> Result<(), Refusal>
+    fn ask_turns(&self, turns: &[u32]) -> Result<(), TurnsFault>
         ensures { result ≡ turns_answer self.now.edges.now self.now.rows.now self.now.start self.now.end turns.now }
     {
         if turns.len() != self.edges.len() {
-            return Err(Refusal::TurnsCount);
+            return Err(TurnsFault::Count);
         }
         let flow = Flow {
             edges: self.edges,
             turns,
         };
         if let Some(edge) = flow.first_over() {
-            return Err(Refusal::TurnsRange { edge });
+            return Err(TurnsFault::Range { edge });
         }
         if let Some(node) = flow.first_unbalanced(self.start, self.end) {
-            return Err(Refusal::Unbalanced { node });
+            return Err(TurnsFault::Unbalanced { node });
         }
         if let Some(edge) = flow.first_stranded(self.end) {
-            return Err(Refusal::Stranded { edge });
+            return Err(TurnsFault::Stranded { edge });
         }
         if let Some(row) = flow.first_broken(self.rows) {
-            return Err(Refusal::RowBroken { row });
+            return Err(TurnsFault::RowBroken { row });
         }
         Ok(())
     }
 
     /// Accepts turns for every edge that are in range, balance at every node, join every edge with turns to the end, and keep every row.
-    pub fn check_turns(&self, turns: &[u32]) -> Result<(), Refusal>
+    pub fn check_turns(&self, turns: &[u32]) -> Result<(), TurnsFault>
         ensures answer { result ≡ turns_answer self.now.edges.now self.now.rows.now self.now.start self.now.end turns.now }
         ensures means { Checked self.now.edges.now self.now.rows.now self.now.start self.now.end turns.now result }
         ensures exact { (result ≡ Ok tt) ↔ Sound self.now.edges.now self.now.rows.now self.now.start self.now.end turns.now }
-        ensures claims { result ≡ Ok tt → Ends self.now.edges.now self.now.start self.now.end → Claim self.now.edges.now self.now.start self.now.end turns.now }
+        ensures claims { result ≡ Ok tt → Ends self.now.edges.now self.now.start self.now.end → Walkable self.now.edges.now self.now.start self.now.end turns.now }
     {
         self.ask_turns(turns)
     }

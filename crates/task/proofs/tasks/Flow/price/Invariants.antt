@@ -3,4 +3,4 @@ use Rattle.task.proofs.Costs.{Adding}
 use Rattle.task.proofs.tasks.Flow.price.Given as goal
 
 abbrev pub invariant-loop-x : goal.invariant-loop-x
-invariant-loop-x l = Adding l.self.edges.now l.self.turns.now l.x l.cycles l.reads
+invariant-loop-x l = Adding l.sense l.self.edges.now l.self.turns.now l.x l.cycles l.reads
