@@ -3,7 +3,7 @@ use Rattle.std.proofs.Common.{◌≡◌, ℕ, zero, suc, ◌+◌, ◌*◌, ◌<�
 use Rattle.std.proofs.lemmas.List.{append-nil}
 use Rattle.std.proofs.lemmas.Option.{none-some, same_Some}
 use Rattle.price.specs.Pairs.{Pair}
-use Rattle.price.specs.declared.refusals.Refusal.{Refusal}
+use Rattle.certificate.specs.declared.faults.TreeFault.{TreeFault}
 use Rattle.certificate.specs.Lines.{leaf_of}
 use Rattle.certificate.specs.Reading.{first_record}
 use Rattle.certificate.specs.Ready.{Small, Bounded, Judgeable}
@@ -71,7 +71,7 @@ module _ (nodes rows : ℕ) where
     pub record AtLeaf (ts : List Branch) (n : ℕ) (xs : List ℤ) (d : ℤ) (ps ms ys : List ℤ) : Type 0 where
       pub fits : LeafFits ts d ps ms
       pub shorter : length ys < length xs
-      pub failed : (e : Refusal) → leaf_answer le unit task c (lines_at task ts) (leaf_of d ps ms) n ≡ Err e → all ≡ Err e
+      pub failed : (e : TreeFault) → leaf_answer le unit task c (lines_at task ts) (leaf_of d ps ms) n ≡ Err e → all ≡ Err e
       pub passed : leaf_answer le unit task c (lines_at task ts) (leaf_of d ps ms) n ≡ Ok tt → Standing (onward ts) (n + 1) ys
 
     pub record AtSplit (ts : List Branch) (n : ℕ) (xs : List ℤ) (x y : ℤ) (ys : List ℤ) : Type 0 where

@@ -2,7 +2,7 @@
 use Rattle.std.proofs.Common.{◌≡◌, ℕ, zero, suc, ◌+◌, ◌≤◌, Bool, true, false, List, [], ◌∷◌, ◌++◌, length, ℤ, pos, negsuc, nat_abs, ◌≤ℤ◌, Ok, Err, sym, refl, ◌∙◌, arith, int_le}
 use Rattle.std.proofs.lemmas.Int.{ints}
 use Rattle.std.proofs.lemmas.Bool.{and_parts}
-use Rattle.price.specs.declared.refusals.Refusal.TheVariants.{TreeRange}
+use Rattle.certificate.specs.declared.faults.TreeFault.TheVariants.{Range}
 use Rattle.task.specs.Coefficients.{in_range}
 use Rattle.certificate.specs.RangeTests.{inside, exists, near, record_tests, tests}
 use Rattle.certificate.specs.Ready.{Small, Bounded}
@@ -21,7 +21,7 @@ both_pass (Ok u) b e = (refl, e)
 both_pass (Err x) b e = cc
 
 front_and_rest : (p : ℕ) (bs cs : List Bool) → range_answer p (bs ++ cs) ≡ Ok tt → (range_answer p bs ≡ Ok tt) × (range_answer (p + length bs) cs ≡ Ok tt)
-front_and_rest p bs cs e = both_pass (range_answer p bs) (range_answer (p + length bs) cs) (sym (first_append (λ i b. b) TreeRange p bs cs) ∙ e)
+front_and_rest p bs cs e = both_pass (range_answer p bs) (range_answer (p + length bs) cs) (sym (first_append (λ i b. b) Range p bs cs) ∙ e)
 
 small : (p : ℕ) (xs : List ℤ) → range_answer p (near xs) ≡ Ok tt → Small xs
 small p [] e k = (omega (arith, ints), omega (arith, ints))

@@ -1,16 +1,16 @@
 -- What the first that fails means.
 use Rattle.std.proofs.Common.{◌≡◌, ℕ, zero, suc, ◌+◌, ◌<◌, Bool, true, false, not, T, ◌⊎◌, List, [], ◌∷◌, length, get_or, Ok, Err, sym, refl, ap, ◌∙◌, subst, inl, inr, arith}
 use Rattle.price.specs.Questions.{ask}
-use Rattle.price.specs.declared.refusals.Refusal.{Refusal}
-use Rattle.certificate.specs.Judged.{EachPasses, LowestFailing}
+use Rattle.certificate.specs.declared.faults.TreeFault.{TreeFault}
+use Rattle.certificate.specs.TreeJudged.{EachPasses, LowestFailing}
 use Rattle.certificate.specs.Tasks.{Answer}
 use Rattle.certificate.specs.Verdicts.{first_failing}
 
 -- the answer of the first that fails, with its meaning
-abbrev pub First : {A : Type 0} → (ℕ → A → Bool) → (ℕ → Refusal) → A → List A → Type 0
+abbrev pub First : {A : Type 0} → (ℕ → A → Bool) → (ℕ → TreeFault) → A → List A → Type 0
 First ok refusal d xs = ((first_failing ok refusal 0 xs ≡ Ok tt) × EachPasses ok d xs) ⊎ ((k : ℕ) × (first_failing ok refusal 0 xs ≡ Err (refusal k)) × LowestFailing ok d xs k)
 
-module _ {A : Type 0} (ok : ℕ → A → Bool) (refusal : ℕ → Refusal) (d : A) where
+module _ {A : Type 0} (ok : ℕ → A → Bool) (refusal : ℕ → TreeFault) (d : A) where
   -- those of a list that is numbered from n
   abbrev Passes_at : ℕ → ℕ → List A → Type 0
   Passes_at n i xs = T (ok (n + i) (get_or xs i d))

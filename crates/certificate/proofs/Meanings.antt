@@ -5,10 +5,10 @@ use Rattle.std.proofs.ByRecursion.{All-from_get_or}
 use Rattle.std.proofs.lemmas.Option.{none-some}
 use Rattle.price.specs.Pairs.{Pair}
 use Rattle.price.specs.Questions.{ask}
-use Rattle.price.specs.declared.refusals.Refusal.TheVariants.{TreeRange, MultiplierSign, AllowanceShort, BoundTooHigh}
+use Rattle.certificate.specs.declared.faults.TreeFault.TheVariants.{Range, MultiplierSign, AllowanceShort, BoundTooHigh}
 use Rattle.task.specs.Graph.{no_edge}
 use Rattle.task.specs.Sides.{node_count}
-use Rattle.certificate.specs.Judged.{SpelledBy, InRange, Signs, Allowances, Passes, Fails, sign, allowance, bound, OfList, not_one_tree, out_of_range, leaf_fails, proved}
+use Rattle.certificate.specs.TreeJudged.{SpelledBy, InRange, Signs, Allowances, Passes, Fails, sign, allowance, bound, OfList, not_one_tree, out_of_range, leaf_fails, proved}
 use Rattle.certificate.specs.LeafTests.{row_ok, edge_ok, bound_ok}
 use Rattle.certificate.specs.Lines.{Line, Leaf, leaves, case_lines, no_line}
 use Rattle.certificate.specs.RangeTests.{tests}
@@ -112,7 +112,7 @@ module _ (le : Pair → Pair → Bool) (unit : Pair) (task : Task) (c : Pair) wh
         let e : 0 + length f.passed ≡ length f.passed = omega arith in
         leaf_fails t s near! f.passed f.rest f.lines f.l f.is f.before_it (subst (λ (k : ℕ). Fails le unit task c f.lines f.l k (tree_answer le unit task c t)) e f.fails)
 
-    by_range : (t : Tree) → SpelledBy task xs t → First (λ i b. b) TreeRange true (tests (length task.edges) top t) → OfList le unit task c top xs (found_answer le unit task c top (Some t))
+    by_range : (t : Tree) → SpelledBy task xs t → First (λ i b. b) Range true (tests (length task.edges) top t) → OfList le unit task c top xs (found_answer le unit task c top (Some t))
     by_range t s (inl f) =
         subst (λ a. OfList le unit task c top xs (before a (tree_answer le unit task c t))) (sym f.0)
         (by_leaves t s (All-from_get_or (λ b. T b) (tests (length task.edges) top t) true f.1) (leaves_means 0 (leaves (case_lines task) t)))
@@ -120,7 +120,7 @@ module _ (le : Pair → Pair → Bool) (unit : Pair) (task : Task) (c : Pair) wh
 
     by_tree : (o : Option Tree) → whole (read_tree 12 (node_count task.edges) (length task.rows) xs) ≡ o → OfList le unit task c top xs (found_answer le unit task c top o)
     by_tree None e = not_one_tree refl (λ t s. none-some t (sym e ∙ whole_spelled (node_count task.edges) (length task.rows) xs t s))
-    by_tree (Some t) e = by_range t (spells_it _ _ xs t (whole_tree _ t e)) (first_means (λ i b. b) TreeRange true (tests (length task.edges) top t))
+    by_tree (Some t) e = by_range t (spells_it _ _ xs t (whole_tree _ t e)) (first_means (λ i b. b) Range true (tests (length task.edges) top t))
 
     pub list_means : OfList le unit task c top xs (list_answer le unit task c top xs)
     list_means = by_tree (whole (read_tree 12 (node_count task.edges) (length task.rows) xs)) refl

@@ -15,7 +15,7 @@ use Rattle.task.specs.Rows.{KeepsAll}
 use Rattle.task.specs.Turns.{turns}
 use Rattle.task.proofs.ByPlaces.{prices_by_places}
 use Rattle.task.proofs.Joined.{all_front, all_behind}
-use Rattle.certificate.specs.Judged.{InRange, Passes}
+use Rattle.certificate.specs.TreeJudged.{InRange, Passes}
 use Rattle.certificate.specs.Lines.{Line, Leaf, leaf_of, leaves, case_lines, at_most, at_least, charge, potential, bound}
 use Rattle.certificate.specs.RangeTests.{inside, tests}
 use Rattle.certificate.specs.Soundness.{Between, NoneDearer, NoRun}

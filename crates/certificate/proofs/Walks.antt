@@ -9,7 +9,7 @@ use Rattle.task.specs.declared.edges.Edge.{Edge}
 use Rattle.task.specs.Graph.{edge_at, Path}
 use Rattle.task.specs.Places.{prices_along}
 use Rattle.task.specs.Turns.{edge_price}
-use Rattle.certificate.specs.Judged.{Allowances}
+use Rattle.certificate.specs.TreeJudged.{Allowances}
 use Rattle.certificate.specs.Lines.{Line, Leaf, charge, potential, allowance}
 use Rattle.certificate.specs.Tasks.{Task}
 

@@ -4,7 +4,7 @@ use Rattle.std.proofs.lemmas.List.{append-nil, nil_from_length}
 use Rattle.std.proofs.lemmas.Bool.{eqb-true, false≢true}
 use Rattle.std.proofs.lemmas.Option.{none-some, same_Some}
 use Rattle.price.specs.Pairs.{Pair}
-use Rattle.price.specs.declared.refusals.Refusal.TheVariants.{NotOneTree}
+use Rattle.certificate.specs.declared.faults.TreeFault.TheVariants.{NotOneTree}
 use Rattle.task.specs.Sides.{node_count}
 use Rattle.certificate.specs.Held.{rest_of, ends}
 use Rattle.certificate.specs.RangeTests.{tests}

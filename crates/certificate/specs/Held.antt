@@ -1,11 +1,11 @@
 -- What the records and lists of the code hold. To compute with.
 use Rattle.std.specs.Prelude.{ℕ, zero, suc, ◌+◌, Bool, true, false, List, [], ◌∷◌, map, length, ℤ, Some, None, Ok, Err, Option, Result, ◌==◌}
 use Rattle.std.specs.Borrow.{Bor}
-use Rattle.price.specs.declared.refusals.Refusal.{Refusal}
+use Rattle.certificate.specs.declared.faults.TreeFault.{TreeFault}
 use Rattle.task.specs.declared.rows.Relation.{Relation}
 use Rattle.task.specs.declared.rows.Relation.TheVariants.{Below, AtMost, Equal}
 use Rattle.task.specs.Rows.{Row}
-use Rattle.certificate.specs.declared.cases.Leaf.{Leaf}
+use Rattle.certificate.specs.declared.leaf.Leaf.{Leaf}
 use Rattle.certificate.specs.declared.reading.Record.{Record}
 use Rattle.certificate.specs.declared.reading.Record.TheVariants as code
 use Rattle.certificate.specs.Lines as lines
@@ -41,11 +41,11 @@ ends None = false
 ends (Some xs) = length xs == 0
 
 -- the list behind a tree that passes
-abbrev pub behind : Answer → List ℤ → Result (List ℤ) Refusal
+abbrev pub behind : Answer → List ℤ → Result (List ℤ) TreeFault
 behind (Ok _) ys = Ok ys
 behind (Err refusal) ys = Err refusal
 
-abbrev pub rest_held : Result (Bor (List ℤ)) Refusal → Result (List ℤ) Refusal
+abbrev pub rest_held : Result (Bor (List ℤ)) TreeFault → Result (List ℤ) TreeFault
 rest_held (Ok r) = Ok r.now
 rest_held (Err refusal) = Err refusal
 

@@ -3,7 +3,7 @@ pub mod Trees
 pub mod Lines
 pub mod LeafTests
 pub mod RangeTests
-pub mod Judged
+pub mod TreeJudged
 pub mod Soundness
 pub mod Reading
 pub mod Verdicts

@@ -1,9 +1,9 @@
--- The answer of the questions, asked in order. To compute with; specs/Judged has what each answer means.
+-- The answer of the questions, asked in order. To compute with; specs/TreeJudged has what each answer means.
 use Rattle.std.specs.Prelude.{ℕ, ◌+◌, ◌^◌, Bool, ◌&&◌, List, [], ◌∷◌, length, ℤ, pos, Some, None, Ok, Err, Option, nat_le}
 use Rattle.price.specs.Pairs.{Pair, zero}
 use Rattle.price.specs.Questions.{ask}
-use Rattle.price.specs.declared.refusals.Refusal.{Refusal}
-use Rattle.price.specs.declared.refusals.Refusal.TheVariants.{EdgesFull, RowsFull, PriceRange, NotOneTree, TreeRange, MultiplierSign, AllowanceShort, BoundTooHigh}
+use Rattle.certificate.specs.declared.faults.TreeFault.{TreeFault}
+use Rattle.certificate.specs.declared.faults.TreeFault.TheVariants.{TooManyEdges, TooManyRows, PriceRange, NotOneTree, Range, MultiplierSign, AllowanceShort, BoundTooHigh}
 use Rattle.task.specs.Coefficients.{in_range}
 use Rattle.task.specs.Sides.{node_count}
 use Rattle.certificate.specs.LeafTests.{row_ok, edge_ok, bound_ok}
@@ -14,7 +14,7 @@ use Rattle.certificate.specs.Tasks.{Task, Answer}
 use Rattle.certificate.specs.Trees.{Tree}
 
 -- the first that fails, which are numbered from i
-abbrev pub first_failing : {A : Type 0} → (ℕ → A → Bool) → (ℕ → Refusal) → ℕ → List A → Answer
+abbrev pub first_failing : {A : Type 0} → (ℕ → A → Bool) → (ℕ → TreeFault) → ℕ → List A → Answer
 first_failing ok refusal i [] = Ok tt
 first_failing ok refusal i (x ∷ xs) = ask (ok i x) (refusal i) (first_failing ok refusal (i + 1) xs)
 
@@ -25,7 +25,7 @@ before (Err refusal) rest = Err refusal
 
 -- the first test that fails of a list that begins at this place
 abbrev pub range_answer : ℕ → List Bool → Answer
-range_answer place bs = first_failing (λ i b. b) TreeRange place bs
+range_answer place bs = first_failing (λ i b. b) Range place bs
 
 module _ (le : Pair → Pair → Bool) where
   -- n is the number of the leaf
@@ -60,8 +60,8 @@ module _ (le : Pair → Pair → Bool) (unit : Pair) (task : Task) (c : Pair) wh
   -- no more edges and rows than a case has, and a price that it can have
   abbrev pub task_answer : ℤ → List ℤ → Answer
   task_answer top xs =
-      ask (nat_le (length task.edges) 64) EdgesFull
-      (ask (nat_le (length task.rows) 24) RowsFull
+      ask (nat_le (length task.edges) 64) TooManyEdges
+      (ask (nat_le (length task.rows) 24) TooManyRows
       (ask (in_range (2 ^ 42) c.0 && in_range (2 ^ 42) c.1) PriceRange
       (list_answer top xs)))
 

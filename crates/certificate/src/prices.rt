@@ -4,7 +4,7 @@ ghost use Rattle.price.specs.Pairs.{times};
 ghost use Rattle.price.specs.Ranges.{Part, Within};
 ghost use Rattle.task.specs.Turns.{edge_price};
 
-use crate::cases::Leaf;
+use crate::leaf::Leaf;
 use price::Price;
 use task::Edge;
 

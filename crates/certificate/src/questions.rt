@@ -6,7 +6,7 @@ ghost use Rattle.certificate.specs.Lines.{no_line};
 ghost use Rattle.certificate.specs.Tasks.{task_of};
 ghost use Rattle.task.specs.Graph.{edge_at};
 
-use crate::cases::Leaf;
+use crate::leaf::Leaf;
 use crate::prices::price_of;
 use price::Tariff;
 use task::{Relation, Row};

@@ -10,7 +10,7 @@ ghost use Rattle.task.specs.Coefficients.{in_range};
 
 use crate::reading::{Record, read_record};
 use crate::shapes::Shape;
-use price::Refusal;
+use crate::faults::TreeFault;
 
 // The largest potential and multiplier, 2^26; the smallest is its negative.
 const MAX_NUMBER: i32 = 67_108_864;
@@ -55,12 +55,12 @@ fn first_far(list: &[i32]) -> Option<usize>
 }
 
 // Asks the potentials or the multipliers of a leaf, which stand from `place` on.
-fn ask_numbers(list: &[i32], place: usize) -> Result<(), Refusal>
+fn ask_numbers(list: &[i32], place: usize) -> Result<(), TreeFault>
     requires { place + length list.now < 2 ^ 63 }
     ensures { result ≡ range_answer place (near list.now) }
 {
     match first_far(list) {
-        Some(i) => Err(Refusal::TreeRange { place: place + i }),
+        Some(i) => Err(TreeFault::Range { place: place + i }),
         None => Ok(()),
     }
 }
@@ -72,33 +72,33 @@ fn ask_leaf(
     scale: i32,
     potentials: &[i32],
     multipliers: &[i32],
-) -> Result<(), Refusal>
+) -> Result<(), TreeFault>
     requires { place + (2 + (length potentials.now + length multipliers.now)) < 2 ^ 63 }
     ensures { result ≡ range_answer place (record_tests 0 top (leaf_record scale potentials.now multipliers.now)) }
 {
     if !is_scale(top, scale) {
-        return Err(Refusal::TreeRange { place: place + 1 });
+        return Err(TreeFault::Range { place: place + 1 });
     }
     ask_numbers(potentials, place + 2)?;
     ask_numbers(multipliers, place + 2 + potentials.len())
 }
 
 // Asks a split that begins at `place`.
-fn ask_split(place: usize, edges: usize, edge: i32, most: i32) -> Result<(), Refusal>
+fn ask_split(place: usize, edges: usize, edge: i32, most: i32) -> Result<(), TreeFault>
     requires { place + 3 < 2 ^ 63 }
     ensures { result ≡ range_answer place (record_tests edges (pos 0) (split_record edge most)) }
 {
     if !is_edge(edges, edge) {
-        return Err(Refusal::TreeRange { place: place + 1 });
+        return Err(TreeFault::Range { place: place + 1 });
     }
     if !(0..=MAX_MOST).contains(&most) {
-        return Err(Refusal::TreeRange { place: place + 2 });
+        return Err(TreeFault::Range { place: place + 2 });
     }
     Ok(())
 }
 
 // Asks a record that begins at `place`.
-fn ask_record(read: Record<'_>, place: usize, limits: Limits) -> Result<(), Refusal>
+fn ask_record(read: Record<'_>, place: usize, limits: Limits) -> Result<(), TreeFault>
     requires { place + long (held read) < 2 ^ 63 }
     ensures { result ≡ range_answer place (record_tests limits.edges limits.top (held read.entry)) }
 {
@@ -117,7 +117,7 @@ pub(crate) fn ask_ranges<'a>(
     list: &'a [i32],
     limits: Limits,
     shape: Shape,
-) -> Result<&'a [i32], Refusal>
+) -> Result<&'a [i32], TreeFault>
     requires place { length list.now ≤ limits.whole }
     requires spelled { Front shape.splits shape.nodes shape.rows list.now }
     ensures { (t : Tree) (ys : List ℤ) → Fits shape.splits shape.nodes shape.rows t → spelled t ++ ys ≡ list.now → rest_held result ≡ behind (range_answer (limits.whole - length list.now) (tests limits.edges limits.top t)) ys }

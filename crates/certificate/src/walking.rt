@@ -9,11 +9,12 @@ ghost use Rattle.certificate.specs.Trees.{Fits, Tree, spelled};
 ghost use Rattle.certificate.specs.Verdicts.{tree_answer};
 
 use crate::branches::Path;
-use crate::cases::Leaf;
+use crate::leaf::Leaf;
 use crate::claims::Claim;
 use crate::reading::{Record, read_record};
 use crate::shapes::Shape;
-use price::{Refusal, Tariff};
+use crate::faults::TreeFault;
+use price::Tariff;
 
 impl<'a> Claim<'a> {
     // The leaf that a record tells, under the branches of a path.
@@ -47,7 +48,7 @@ pub(crate) fn judge_list<T: Tariff>(
     claim: Claim<'_>,
     shape: Shape,
     list: &[i32],
-) -> Result<(), Refusal>
+) -> Result<(), TreeFault>
     requires { (shape.splits ≡ 12) × Judgeable shape.nodes shape.rows list.now }
     ensures { (t : Tree) → Fits 12 shape.nodes shape.rows t → spelled t ≡ list.now → result ≡ tree_answer (T.le tariff.now) (T.unit tariff.now) (task_of claim.entry.task.now) claim.entry.price.now t }
 {

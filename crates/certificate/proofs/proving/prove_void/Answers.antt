@@ -1,6 +1,6 @@
 use Rattle.std.proofs.Common.{◌≡◌, pos, sym, ap, ◌∙◌, subst}
 use Rattle.price.specs.Pairs.{zero}
-use Rattle.certificate.specs.Judged.{Judged}
+use Rattle.certificate.specs.TreeJudged.{TreeJudged}
 use Rattle.certificate.specs.Tasks.{task_of}
 use Rattle.certificate.specs.Verdicts.{task_answer}
 use Rattle.certificate.proofs.Proves.{judged, void_sound}
@@ -14,5 +14,5 @@ returns g c =
     let xs = c.args.tree.now in
     let none : c.price_of.result ≡ zero = c.price_of.ensures in
     let answer = c.judge.ensures ∙ ap (λ p. task_answer le unit task p (pos 0) xs) none in
-    let means = subst (Judged le unit task zero (pos 0) xs) (sym answer) (judged le unit task zero (pos 0) xs) in
+    let means = subst (TreeJudged le unit task zero (pos 0) xs) (sym answer) (judged le unit task zero (pos 0) xs) in
     record { answer = answer; means = means; sound = void_sound le unit task zero xs (g.met.T.Tariff.laws c.args.tariff.now) _ means }

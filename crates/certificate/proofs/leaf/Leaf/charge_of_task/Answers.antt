@@ -4,7 +4,7 @@ use Rattle.price.specs.Pairs.{◌⊕◌}
 use Rattle.certificate.specs.Columns.{entries, row_entry}
 use Rattle.certificate.specs.Held.{leaf_held}
 use Rattle.certificate.proofs.Entries.{entry_of_row, charged_more}
-use Rattle.certificate.proofs.cases.Leaf.charge_of_task.Goals as goal
+use Rattle.certificate.proofs.leaf.Leaf.charge_of_task.Goals as goal
 
 pub loop-i-preserved : goal.loop-i-preserved
 loop-i-preserved c =

@@ -4,7 +4,7 @@ use Rattle.task.specs.Graph.{no_edge}
 use Rattle.certificate.specs.Held.{leaf_held, lines_of}
 use Rattle.certificate.specs.Lines.{allowance}
 use Rattle.certificate.proofs.Levels.{edge_levels}
-use Rattle.certificate.proofs.cases.Leaf.allowance.Goals as goal
+use Rattle.certificate.proofs.leaf.Leaf.allowance.Goals as goal
 
 pub returns : goal.returns
 returns c =

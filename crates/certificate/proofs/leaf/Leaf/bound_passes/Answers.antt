@@ -2,7 +2,7 @@ use Rattle.std.proofs.Common.{◌≡◌, not, pos, ◌+ℤ◌, sym, ap, ◌∙�
 use Rattle.std.proofs.lemmas.Int.{ints, to_z-of_z}
 use Rattle.price.specs.Pairs.{◌⊕◌, times}
 use Rattle.price.specs.Ranges.{Both}
-use Rattle.certificate.proofs.cases.Leaf.bound_passes.Goals as goal
+use Rattle.certificate.proofs.leaf.Leaf.bound_passes.Goals as goal
 
 pub multiple-past-requires : goal.multiple-past-requires
 multiple-past-requires g c =

@@ -2,7 +2,7 @@ use Rattle.std.proofs.Common.{◌≡◌, ◌+◌, ◌^◌, pos, ◌*ℤ◌, sym,
 use Rattle.price.specs.Ranges.{Part}
 use Rattle.price.specs.Integers.{scaled}
 use Rattle.std.proofs.lemmas.Int.{ints, to_z-of_z}
-use Rattle.certificate.proofs.cases.Leaf.scaled.Goals as goal
+use Rattle.certificate.proofs.leaf.Leaf.scaled.Goals as goal
 
 small : (c : goal.After-from) → Part (pos c.args.self.now.scale *ℤ c.args.part)
 small c =

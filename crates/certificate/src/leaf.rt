@@ -1,4 +1,4 @@
-// The records of a leaf.
+// A leaf under the splits above it, and a column of the table of its rows.
 ghost use Rattle.std.specs.Prelude.{◌≤◌, length};
 ghost use Rattle.certificate.specs.Ready.{Small};
 

@@ -6,7 +6,7 @@ ghost use Rattle.certificate.specs.Lines.{allowance, bound, potential};
 ghost use Rattle.price.specs.Pairs.{◌⊕◌, ◌⊖◌};
 ghost use Rattle.task.specs.Graph.{edge_at};
 
-use crate::cases::{Column, Leaf};
+use crate::leaf::{Column, Leaf};
 use crate::prices::price_of;
 use price::Price;
 use task::Node;

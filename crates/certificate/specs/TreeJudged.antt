@@ -2,7 +2,7 @@
 use Rattle.std.specs.Prelude.{◌≡◌, ℕ, ◌^◌, ◌<◌, ◌≤◌, Bool, true, not, T, List, ◌∷◌, ◌++◌, length, ℤ, Ok, Err, slice_index_or}
 use Rattle.price.specs.Pairs.{Pair}
 use Rattle.price.specs.Ranges.{Both}
-use Rattle.price.specs.declared.refusals.Refusal.TheVariants.{EdgesFull, RowsFull, PriceRange, NotOneTree, TreeRange, MultiplierSign, AllowanceShort, BoundTooHigh}
+use Rattle.certificate.specs.declared.faults.TreeFault.TheVariants.{TooManyEdges, TooManyRows, PriceRange, NotOneTree, Range, MultiplierSign, AllowanceShort, BoundTooHigh}
 use Rattle.std.specs.List.{AllByRecursion}
 use Rattle.task.specs.Graph.{no_edge}
 use Rattle.task.specs.Sides.{node_count}
@@ -55,15 +55,15 @@ module _ (le : Pair → Pair → Bool) (unit : Pair) (task : Task) (c : Pair) wh
   pub data OfList (top : ℤ) (xs : List ℤ) (answer : Answer) : Type 0 where
     not_one_tree : answer ≡ Err NotOneTree → ((t : Tree) → SpelledBy task xs t → ⊥) → OfList top xs answer
     out_of_range : (t : Tree) → SpelledBy task xs t →
-        (place : ℕ) → answer ≡ Err (TreeRange place) → LowestFailing (λ i b. b) true (tests (length task.edges) top t) place → OfList top xs answer
+        (place : ℕ) → answer ≡ Err (Range place) → LowestFailing (λ i b. b) true (tests (length task.edges) top t) place → OfList top xs answer
     leaf_fails : (t : Tree) → SpelledBy task xs t → InRange task top t →
         (passed rest : List (List Line × Leaf)) (lines : List Line) (l : Leaf) → leaves (case_lines task) t ≡ passed ++ ((lines, l) ∷ rest) →
         AllByRecursion (λ x. Passes x.0 x.1) passed → Fails lines l (length passed) answer → OfList top xs answer
     proved : answer ≡ Ok tt → (t : Tree) → SpelledBy task xs t → InRange task top t →
         AllByRecursion (λ x. Passes x.0 x.1) (leaves (case_lines task) t) → OfList top xs answer
 
-  pub data Judged (top : ℤ) (xs : List ℤ) (answer : Answer) : Type 0 where
-    edges_full : answer ≡ Err EdgesFull → 64 < length task.edges → Judged top xs answer
-    rows_full : answer ≡ Err RowsFull → length task.edges ≤ 64 → 24 < length task.rows → Judged top xs answer
-    price_range : answer ≡ Err PriceRange → length task.edges ≤ 64 → length task.rows ≤ 24 → (Both (2 ^ 42) c → ⊥) → Judged top xs answer
-    of_list : length task.edges ≤ 64 → length task.rows ≤ 24 → Both (2 ^ 42) c → OfList top xs answer → Judged top xs answer
+  pub data TreeJudged (top : ℤ) (xs : List ℤ) (answer : Answer) : Type 0 where
+    too_many_edges : answer ≡ Err TooManyEdges → 64 < length task.edges → TreeJudged top xs answer
+    too_many_rows : answer ≡ Err TooManyRows → length task.edges ≤ 64 → 24 < length task.rows → TreeJudged top xs answer
+    price_range : answer ≡ Err PriceRange → length task.edges ≤ 64 → length task.rows ≤ 24 → (Both (2 ^ 42) c → ⊥) → TreeJudged top xs answer
+    of_list : length task.edges ≤ 64 → length task.rows ≤ 24 → Both (2 ^ 42) c → OfList top xs answer → TreeJudged top xs answer

@@ -1,10 +1,10 @@
 -- The rows before have passed.
-use Rattle.price.specs.declared.refusals.Refusal.TheVariants.{MultiplierSign}
+use Rattle.certificate.specs.declared.faults.TreeFault.TheVariants.{MultiplierSign}
 use Rattle.certificate.specs.Held.{leaf_held, lines_of}
 use Rattle.certificate.specs.LeafTests.{row_ok}
 use Rattle.certificate.specs.Verdicts.{signs_answer}
 use Rattle.certificate.proofs.Steps.{Passed}
-use Rattle.certificate.proofs.cases.Leaf.ask_signs.Given as goal
+use Rattle.certificate.proofs.leaf.Leaf.ask_signs.Given as goal
 
 abbrev pub invariant-loop-row : goal.invariant-loop-row
 invariant-loop-row g l =

@@ -4,7 +4,7 @@ use Rattle.price.specs.Pairs.{Pair}
 use Rattle.price.specs.Ranges.{Both}
 use Rattle.certificate.specs.Columns.{entries, charged}
 use Rattle.certificate.specs.Held.{leaf_held}
-use Rattle.certificate.proofs.cases.Leaf.charge.Given as goal
+use Rattle.certificate.proofs.leaf.Leaf.charge.Given as goal
 
 abbrev pub invariant-loop-i : goal.invariant-loop-i
 invariant-loop-i l =

@@ -1,11 +1,11 @@
 -- The edges before have passed.
-use Rattle.price.specs.declared.refusals.Refusal.TheVariants.{AllowanceShort}
+use Rattle.certificate.specs.declared.faults.TreeFault.TheVariants.{AllowanceShort}
 use Rattle.certificate.specs.Held.{leaf_held, lines_of}
 use Rattle.certificate.specs.LeafTests.{edge_ok}
 use Rattle.certificate.specs.Tasks.{task_of}
 use Rattle.certificate.specs.Verdicts.{edges_answer}
 use Rattle.certificate.proofs.Steps.{Passed}
-use Rattle.certificate.proofs.cases.Leaf.ask_edges.Given as goal
+use Rattle.certificate.proofs.leaf.Leaf.ask_edges.Given as goal
 
 abbrev pub invariant-loop-edge : goal.invariant-loop-edge
 invariant-loop-edge g l =

@@ -1,6 +1,6 @@
 use Rattle.std.proofs.Common.{sym, ◌∙◌}
 use Rattle.certificate.proofs.Levels.{limit_levels}
-use Rattle.certificate.proofs.cases.Leaf.bound.Goals as goal
+use Rattle.certificate.proofs.leaf.Leaf.bound.Goals as goal
 
 pub returns : goal.returns
 returns c =

@@ -5,7 +5,7 @@ use Rattle.certificate.specs.Splits.{branch_of}
 use Rattle.certificate.specs.Columns.{entries, branch_entry, charged}
 use Rattle.certificate.specs.Held.{leaf_held}
 use Rattle.certificate.proofs.Entries.{entry_of_branch, charged_more}
-use Rattle.certificate.proofs.cases.Leaf.charge.Goals as goal
+use Rattle.certificate.proofs.leaf.Leaf.charge.Goals as goal
 
 pub loop-i-preserved : goal.loop-i-preserved
 loop-i-preserved c =

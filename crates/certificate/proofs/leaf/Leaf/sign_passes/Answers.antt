@@ -4,7 +4,7 @@ use Rattle.price.specs.Pairs.{Pair, zero}
 use Rattle.certificate.specs.Held.{leaf_held}
 use Rattle.certificate.specs.Lines.{multiplier}
 use Rattle.certificate.proofs.Signs.{sign_of}
-use Rattle.certificate.proofs.cases.Leaf.sign_passes.Goals as goal
+use Rattle.certificate.proofs.leaf.Leaf.sign_passes.Goals as goal
 
 pub returns-then-wants_equality : goal.returns-then-wants_equality
 returns-then-wants_equality g c =

@@ -1,7 +1,7 @@
 use Rattle.std.proofs.Common.{◌-ℤ◌, ◌+ℤ◌, ◌∙◌, arith, w64, SFits}
 use Rattle.price.specs.Pairs.{◌⊕◌, ◌⊖◌}
 use Rattle.std.proofs.lemmas.Int.{ints, to_z-of_z}
-use Rattle.certificate.proofs.cases.Leaf.level.Goals as goal
+use Rattle.certificate.proofs.leaf.Leaf.level.Goals as goal
 
 pub price_of-requires : goal.price_of-requires
 price_of-requires c =
