@@ -9,11 +9,10 @@ pub mod Far
 pub mod Steps
 pub mod Firsts
 pub mod Spellings
-pub mod Seen
-pub mod Outside
-pub mod Left
-pub mod Ahead
-pub mod InFront
+pub mod TreeRecords
+pub mod FrontRecords
+pub mod RangeAnswers
+pub mod LeafAnswers
 pub mod Wholes
 pub mod Bounds
 pub mod Walks

@@ -17,7 +17,7 @@ use Rattle.certificate.specs.Tasks.{Task, Answer}
 use Rattle.certificate.specs.Trees.{Tree}
 use Rattle.certificate.specs.Verdicts.{before, edges_answer, leaf_answer, leaves_answer, tree_answer, found_answer, list_answer}
 use Rattle.certificate.proofs.Lowests.{First, first_means}
-use Rattle.certificate.proofs.Wholes.{whole_tree, whole_spelled, spells_it}
+use Rattle.certificate.proofs.Wholes.{whole_spelled, spells_it}
 
 module _ (le : Pair → Pair → Bool) (unit : Pair) (task : Task) (c : Pair) where
   abbrev Passing : List Line × Leaf → Type 0
@@ -120,7 +120,7 @@ module _ (le : Pair → Pair → Bool) (unit : Pair) (task : Task) (c : Pair) wh
 
     by_tree : (o : Option Tree) → whole (read_tree 12 (node_count task.edges) (length task.rows) xs) ≡ o → OfList le unit task c top xs (found_answer le unit task c top o)
     by_tree None e = not_one_tree refl (λ t s. none-some t (sym e ∙ whole_spelled (node_count task.edges) (length task.rows) xs t s))
-    by_tree (Some t) e = by_range t (spells_it _ _ xs t (whole_tree _ t e)) (first_means (λ i b. b) Range true (tests (length task.edges) top t))
+    by_tree (Some t) e = by_range t (spells_it _ _ xs t e) (first_means (λ i b. b) Range true (tests (length task.edges) top t))
 
     pub list_means : OfList le unit task c top xs (list_answer le unit task c top xs)
     list_means = by_tree (whole (read_tree 12 (node_count task.edges) (length task.rows) xs)) refl

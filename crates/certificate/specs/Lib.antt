@@ -11,3 +11,4 @@ pub mod Splits
 pub mod Columns
 pub mod Held
 pub mod Ready
+pub mod Ahead

@@ -7,11 +7,11 @@ use Rattle.certificate.specs.declared.faults.TreeFault.TheVariants.{TooManyEdges
 use Rattle.task.specs.Coefficients.{in_range}
 use Rattle.task.specs.Sides.{node_count}
 use Rattle.certificate.specs.LeafTests.{row_ok, edge_ok, bound_ok}
-use Rattle.certificate.specs.Lines.{Line, Leaf, leaves, case_lines}
+use Rattle.certificate.specs.Lines.{Line, Leaf, leaf_of, leaves, case_lines}
 use Rattle.certificate.specs.RangeTests.{tests}
 use Rattle.certificate.specs.Reading.{read_tree, whole}
 use Rattle.certificate.specs.Tasks.{Task, Answer}
-use Rattle.certificate.specs.Trees.{Tree}
+use Rattle.certificate.specs.Trees.{Tree, TreeRecord, leaf_record, split_record}
 
 -- the first that fails, which are numbered from i
 abbrev pub first_failing : {A : Type 0} → (ℕ → A → Bool) → (ℕ → TreeFault) → ℕ → List A → Answer
@@ -39,6 +39,11 @@ module _ (le : Pair → Pair → Bool) (unit : Pair) (task : Task) (c : Pair) wh
   abbrev pub leaf_answer : List Line → Leaf → ℕ → Answer
   leaf_answer lines l n =
       before (signs_answer le lines l n) (before (edges_answer le task lines l n) (ask (bound_ok le unit task c lines l) (BoundTooHigh n) (Ok tt)))
+
+  -- a record is judged if it is a leaf; n leaves stand before it
+  abbrev pub record_answer : List Line → TreeRecord → ℕ → Answer
+  record_answer lines (leaf_record scale potentials multipliers) n = leaf_answer lines (leaf_of scale potentials multipliers) n
+  record_answer lines (split_record edge most) n = Ok tt
 
   -- leaves that are numbered from n
   abbrev pub leaves_answer : ℕ → List (List Line × Leaf) → Answer

@@ -5,8 +5,8 @@ ghost use Rattle.certificate.specs.Held.{leaf_held, lines_of};
 ghost use Rattle.certificate.specs.Tasks.{task_of};
 ghost use Rattle.certificate.specs.Verdicts.{edges_answer, leaf_answer, signs_answer};
 
-use crate::leaf::Leaf;
 use crate::faults::TreeFault;
+use crate::leaf::Leaf;
 use price::Tariff;
 
 impl Leaf<'_> {

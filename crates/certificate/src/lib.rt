@@ -13,6 +13,7 @@ mod proving;
 mod questions;
 mod ranges;
 mod reading;
+mod records;
 mod shapes;
 mod sums;
 mod walking;

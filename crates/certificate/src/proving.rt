@@ -8,11 +8,11 @@ ghost use Rattle.price.specs.Pairs.{zero};
 ghost use Rattle.task.specs.Coefficients.{in_range};
 
 use crate::claims::Claim;
+use crate::faults::TreeFault;
 use crate::prices::price_of;
 use crate::ranges::{Limits, ask_ranges};
 use crate::shapes::is_one_tree;
 use crate::walking::judge_list;
-use crate::faults::TreeFault;
 use price::{Price, Tariff};
 use task::{MAX_EDGES, MAX_ROWS, Task};
 
@@ -44,7 +44,6 @@ fn judge_tree<T: Tariff>(
         return Err(TreeFault::NotOneTree);
     }
     let limits = Limits {
-        whole: list.len(),
         edges: claim.task.edges.len(),
         top,
     };

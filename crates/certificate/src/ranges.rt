@@ -1,16 +1,17 @@
 // Are the numbers of a tree in range?
 // Each function bounds its own place by what it reads from there on.
-ghost use Rattle.std.specs.Prelude.{◌≡◌, ◌+◌, ◌-◌, ◌^◌, ◌<◌, ◌≤◌, List, ◌++◌, length, position, ℤ, pos};
-ghost use Rattle.certificate.specs.Held.{behind, held, long, rest_held};
+ghost use Rattle.std.specs.Prelude.{◌≡◌, ◌+◌, ◌^◌, ◌<◌, length, position, pos, ◌≤ℤ◌};
+ghost use Rattle.certificate.specs.Ahead.{numbers};
+ghost use Rattle.certificate.specs.Held.{held};
 ghost use Rattle.certificate.specs.RangeTests.{exists, far, inside, near, record_tests, tests};
-ghost use Rattle.certificate.specs.Ready.{Front};
-ghost use Rattle.certificate.specs.Trees.{Fits, Tree, leaf_record, spelled, split_record};
+ghost use Rattle.certificate.specs.Trees.{Spells, Tree, leaf_record, split_record};
 ghost use Rattle.certificate.specs.Verdicts.{range_answer};
 ghost use Rattle.task.specs.Coefficients.{in_range};
 
-use crate::reading::{Record, read_record};
-use crate::shapes::Shape;
 use crate::faults::TreeFault;
+use crate::reading::Record;
+use crate::records::Records;
+use crate::shapes::Shape;
 
 // The largest potential and multiplier, 2^26; the smallest is its negative.
 const MAX_NUMBER: i32 = 67_108_864;
@@ -18,13 +19,12 @@ const MAX_NUMBER: i32 = 67_108_864;
 // The most turns of an edge, the limit of all turns, here among the signed numbers of a tree.
 const MAX_MOST: i32 = 1_048_575;
 
-// What a tree is asked for: one of so many edges, and a D of at most `top`; its list has `whole` numbers.
+// What a tree is asked for: one of so many edges, and a D of at most `top`.
 #[derive(Clone, Copy)]
 pub(crate) struct Limits {
-    pub(crate) whole: usize,
     pub(crate) edges: usize,
     pub(crate) top: i32,
-    ghost counted: { whole < 2 ^ 63 },
+    ghost few: { top ≤ℤ pos 1000 },
 }
 
 // Is there an edge of this number?
@@ -99,7 +99,7 @@ fn ask_split(place: usize, edges: usize, edge: i32, most: i32) -> Result<(), Tre
 
 // Asks a record that begins at `place`.
 fn ask_record(read: Record<'_>, place: usize, limits: Limits) -> Result<(), TreeFault>
-    requires { place + long (held read) < 2 ^ 63 }
+    requires { place + length (numbers (held read)) < 2 ^ 63 }
     ensures { result ≡ range_answer place (record_tests limits.edges limits.top (held read.entry)) }
 {
     match read {
@@ -112,28 +112,15 @@ fn ask_record(read: Record<'_>, place: usize, limits: Limits) -> Result<(), Tree
     }
 }
 
-// Asks the tree at the front of what is left of the whole list, and answers the list behind it.
-pub(crate) fn ask_ranges<'a>(
-    list: &'a [i32],
-    limits: Limits,
-    shape: Shape,
-) -> Result<&'a [i32], TreeFault>
-    requires place { length list.now ≤ limits.whole }
-    requires spelled { Front shape.splits shape.nodes shape.rows list.now }
-    ensures { (t : Tree) (ys : List ℤ) → Fits shape.splits shape.nodes shape.rows t → spelled t ++ ys ≡ list.now → rest_held result ≡ behind (range_answer (limits.whole - length list.now) (tests limits.edges limits.top t)) ys }
+// Asks the records of a tree's list in their order.
+pub(crate) fn ask_ranges(list: &[i32], limits: Limits, shape: Shape) -> Result<(), TreeFault>
+    requires { (shape.splits ≡ 12) × ((t : Tree) × Spells shape.nodes shape.rows list.now t) }
+    ensures { (t : Tree) → Spells shape.nodes shape.rows list.now t → result ≡ range_answer 0 (tests limits.edges limits.top t) }
 {
-    let Some((record, rest)) = read_record(list, shape) else {
-        return Ok(list);
-    };
-    ask_record(record, limits.whole - list.len(), limits)?;
-    match record {
-        Record::Leaf { .. } => Ok(rest),
-        Record::Split { .. } => {
-            let Some(under) = shape.under_split() else {
-                return Ok(rest);
-            };
-            let second = ask_ranges(rest, limits, under)?;
-            ask_ranges(second, limits, under)
-        }
+    let mut records = Records::new(list, shape);
+    while let Some((record, rest)) = records.front() {
+        ask_record(record, records.place(), limits)?;
+        records.pass(record, rest);
     }
+    Ok(())
 }
