@@ -3,6 +3,7 @@ use Rattle.std.proofs.Common.{◌≡◌, ℕ, Bool, List, [], ◌∷◌, ◌++�
 use Rattle.std.specs.List.{All}
 use Rattle.std.proofs.lemmas.List.{append-nil, map_push}
 use Rattle.price.specs.Pairs.{Pair}
+use Rattle.price.specs.declared.senses.Sense.{Sense}
 use Rattle.certificate.specs.declared.branches.Path.{Path}
 use Rattle.certificate.specs.declared.records.Records.{Records}
 use Rattle.certificate.specs.Ahead.{records, after, leaves_after}
@@ -42,19 +43,19 @@ module _ (task : Task) where
   left_all t = rw (← append-nil (records t), left_tree, append-nil, append-nil) refl
 
 -- the answer is that of the leaves of the records ahead, whose numbers are in range
-pub record Judging (le : Pair → Pair → Bool) (unit : Pair) (task : Task) (c : Pair) (all : Answer) (r : Records) (rs : List TreeRecord) : Type 0 where
+pub record Judging (le : Pair → Pair → Bool) (unit : Pair) (task : Task) (sense : Sense) (c : Pair) (all : Answer) (r : Records) (rs : List TreeRecord) : Type 0 where
   pub bounded : All Bounded rs
-  pub same : all ≡ leaves_answer le unit task c r.leaves (left task (branches_of r.path) rs)
+  pub same : all ≡ leaves_answer le unit task sense c r.leaves (left task (branches_of r.path) rs)
 
-judged : (le : Pair → Pair → Bool) (unit : Pair) (task : Task) (c : Pair) (n : ℕ) (ts : List Branch) (q : TreeRecord) (qs : List TreeRecord) →
-    leaves_answer le unit task c n (left task ts (q ∷ qs)) ≡ before (record_answer le unit task c (lines_at task ts) q n) (leaves_answer le unit task c (leaves_after q n) (left task (after q ts) qs))
-judged le unit task c n ts (leaf_record d ps ms) qs = refl
-judged le unit task c n ts (split_record e m) qs = refl
+judged : (le : Pair → Pair → Bool) (unit : Pair) (task : Task) (sense : Sense) (c : Pair) (n : ℕ) (ts : List Branch) (q : TreeRecord) (qs : List TreeRecord) →
+    leaves_answer le unit task sense c n (left task ts (q ∷ qs)) ≡ before (record_answer le unit task sense c (lines_at task ts) q n) (leaves_answer le unit task sense c (leaves_after q n) (left task (after q ts) qs))
+judged le unit task sense c n ts (leaf_record d ps ms) qs = refl
+judged le unit task sense c n ts (split_record e m) qs = refl
 
 -- the record in front, and the leaves behind it
-pub first_judged : {le : Pair → Pair → Bool} {unit : Pair} {task : Task} {c : Pair} {all : Answer} {r : Records} {q : TreeRecord} {qs : List TreeRecord} {p : Path} {n : ℕ} →
-    Judging le unit task c all r (q ∷ qs) → p ≡ r.path → n ≡ r.leaves →
-    FirstOf all (record_answer le unit task c (lines_at task (branches_of p)) q n) (leaves_answer le unit task c (leaves_after q r.leaves) (left task (after q (branches_of r.path)) qs))
-first_judged {le} {unit} {task} {c} {all} {r} {q} {qs} j path number =
-    first_or_rest all _ _ (j.same ∙ judged le unit task c r.leaves (branches_of r.path) q qs
-    ∙ (λ i. before (record_answer le unit task c (lines_at task (branches_of (sym path i))) q (sym number i)) (leaves_answer le unit task c (leaves_after q r.leaves) (left task (after q (branches_of r.path)) qs))))
+pub first_judged : {le : Pair → Pair → Bool} {unit : Pair} {task : Task} {sense : Sense} {c : Pair} {all : Answer} {r : Records} {q : TreeRecord} {qs : List TreeRecord} {p : Path} {n : ℕ} →
+    Judging le unit task sense c all r (q ∷ qs) → p ≡ r.path → n ≡ r.leaves →
+    FirstOf all (record_answer le unit task sense c (lines_at task (branches_of p)) q n) (leaves_answer le unit task sense c (leaves_after q r.leaves) (left task (after q (branches_of r.path)) qs))
+first_judged {le} {unit} {task} {sense} {c} {all} {r} {q} {qs} j path number =
+    first_or_rest all _ _ (j.same ∙ judged le unit task sense c r.leaves (branches_of r.path) q qs
+    ∙ (λ i. before (record_answer le unit task sense c (lines_at task (branches_of (sym path i))) q (sym number i)) (leaves_answer le unit task sense c (leaves_after q r.leaves) (left task (after q (branches_of r.path)) qs))))

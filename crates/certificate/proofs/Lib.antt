@@ -18,6 +18,6 @@ pub mod Bounds
 pub mod Walks
 pub mod Limits
 pub mod Theorems
-pub mod Lowests
+pub mod ByQuestions
 pub mod Meanings
 pub mod Proves

@@ -4,6 +4,8 @@ use Rattle.price.specs.Pairs.{Pair, zero}
 use Rattle.price.specs.Questions.{ask}
 use Rattle.certificate.specs.declared.faults.TreeFault.{TreeFault}
 use Rattle.certificate.specs.declared.faults.TreeFault.TheVariants.{TooManyEdges, TooManyRows, PriceRange, NotOneTree, Range, MultiplierSign, AllowanceShort, BoundTooHigh}
+use Rattle.price.specs.declared.senses.Sense.{Sense}
+use Rattle.price.specs.declared.senses.Sense.TheVariants.{Longest}
 use Rattle.task.specs.Coefficients.{in_range}
 use Rattle.task.specs.Sides.{node_count}
 use Rattle.certificate.specs.LeafTests.{row_ok, edge_ok, bound_ok}
@@ -32,13 +34,13 @@ module _ (le : Pair → Pair → Bool) where
   abbrev pub signs_answer : List Line → Leaf → ℕ → Answer
   signs_answer lines l n = first_failing (row_ok le l) (MultiplierSign n) 0 lines
 
-  abbrev pub edges_answer : Task → List Line → Leaf → ℕ → Answer
-  edges_answer task lines l n = first_failing (edge_ok le lines l) (AllowanceShort n) 0 task.edges
+  abbrev pub edges_answer : Task → Sense → List Line → Leaf → ℕ → Answer
+  edges_answer task sense lines l n = first_failing (edge_ok le sense lines l) (AllowanceShort n) 0 task.edges
 
-module _ (le : Pair → Pair → Bool) (unit : Pair) (task : Task) (c : Pair) where
+module _ (le : Pair → Pair → Bool) (unit : Pair) (task : Task) (sense : Sense) (c : Pair) where
   abbrev pub leaf_answer : List Line → Leaf → ℕ → Answer
   leaf_answer lines l n =
-      before (signs_answer le lines l n) (before (edges_answer le task lines l n) (ask (bound_ok le unit task c lines l) (BoundTooHigh n) (Ok tt)))
+      before (signs_answer le lines l n) (before (edges_answer le task sense lines l n) (ask (bound_ok le unit task c lines l) (BoundTooHigh n) (Ok tt)))
 
   -- a record is judged if it is a leaf; n leaves stand before it
   abbrev pub record_answer : List Line → TreeRecord → ℕ → Answer
@@ -70,8 +72,9 @@ module _ (le : Pair → Pair → Bool) (unit : Pair) (task : Task) (c : Pair) wh
       (ask (in_range (2 ^ 42) c.0 && in_range (2 ^ 42) c.1) PriceRange
       (list_answer top xs)))
 
-abbrev pub price_answer : (Pair → Pair → Bool) → Pair → Task → Pair → List ℤ → Answer
-price_answer le unit task c xs = task_answer le unit task c (pos 1000) xs
+abbrev pub price_answer : (Pair → Pair → Bool) → Pair → Task → Sense → Pair → List ℤ → Answer
+price_answer le unit task sense c xs = task_answer le unit task sense c (pos 1000) xs
 
+-- D is 0, so no price of an edge counts: any sense would do
 abbrev pub void_answer : (Pair → Pair → Bool) → Pair → Task → List ℤ → Answer
-void_answer le unit task xs = task_answer le unit task zero (pos 0) xs
+void_answer le unit task xs = task_answer le unit task Longest zero (pos 0) xs

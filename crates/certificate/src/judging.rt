@@ -29,7 +29,7 @@ impl Leaf<'_> {
 
     // Asks the edges in rising order, in a loop of the same form.
     fn ask_edges<T: Tariff>(&self, tariff: &T) -> Result<(), TreeFault>
-        ensures { result ≡ edges_answer (T.le tariff.now) (task_of self.now.claim.task.now) (lines_of self.now) (leaf_held self.now) self.now.number }
+        ensures { result ≡ edges_answer (T.le tariff.now) (task_of self.now.claim.task.now) self.now.claim.sense (lines_of self.now) (leaf_held self.now) self.now.number }
     {
         'edges: {
             for edge in 0..self.claim.task.edges.len() {
@@ -46,7 +46,7 @@ impl Leaf<'_> {
 
     // The first question of the leaf that fails.
     pub(crate) fn judge<T: Tariff>(&self, tariff: &T) -> Result<(), TreeFault>
-        ensures { result ≡ leaf_answer (T.le tariff.now) (T.unit tariff.now) (task_of self.now.claim.task.now) self.now.claim.price.now (lines_of self.now) (leaf_held self.now) self.now.number }
+        ensures { result ≡ leaf_answer (T.le tariff.now) (T.unit tariff.now) (task_of self.now.claim.task.now) self.now.claim.sense self.now.claim.price.now (lines_of self.now) (leaf_held self.now) self.now.number }
     {
         self.ask_signs(tariff)?;
         self.ask_edges(tariff)?;

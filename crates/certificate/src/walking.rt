@@ -30,7 +30,7 @@ impl<'a> Claim<'a> {
         multipliers: &'a [i32],
     ) -> Leaf<'a>
         requires { (unsigned_abs scale ≤ 1000) × Small potentials.now × Small multipliers.now }
-        ensures of { (task_of result.claim.task.now ≡ task_of self.entry.task.now) × (result.claim.price.now ≡ self.entry.price.now) × (result.number ≡ number) }
+        ensures of { (task_of result.claim.task.now ≡ task_of self.entry.task.now) × (result.claim.sense ≡ self.entry.sense) × (result.claim.price.now ≡ self.entry.price.now) × (result.number ≡ number) }
         ensures lines { lines_of result ≡ lines_at (task_of self.entry.task.now) (branches_of path.now) }
         ensures held { leaf_held result ≡ leaf_of scale potentials.now multipliers.now }
     {
@@ -53,7 +53,7 @@ impl<'a> Claim<'a> {
         number: usize,
     ) -> Result<(), TreeFault>
         requires { Bounded (held read) }
-        ensures { result ≡ record_answer (T.le tariff.now) (T.unit tariff.now) (task_of self.entry.task.now) self.entry.price.now (lines_at (task_of self.entry.task.now) (branches_of path.now)) (held read.entry) number }
+        ensures { result ≡ record_answer (T.le tariff.now) (T.unit tariff.now) (task_of self.entry.task.now) self.entry.sense self.entry.price.now (lines_at (task_of self.entry.task.now) (branches_of path.now)) (held read.entry) number }
     {
         match read {
             Record::Leaf {
@@ -76,7 +76,7 @@ pub(crate) fn judge_list<T: Tariff>(
     list: &[i32],
 ) -> Result<(), TreeFault>
     requires { (shape.splits ≡ 12) × ((t : Tree) × Spells shape.nodes shape.rows list.now t × All Bounded (records t)) }
-    ensures { (t : Tree) → Spells shape.nodes shape.rows list.now t → All Bounded (records t) → result ≡ tree_answer (T.le tariff.now) (T.unit tariff.now) (task_of claim.entry.task.now) claim.entry.price.now t }
+    ensures { (t : Tree) → Spells shape.nodes shape.rows list.now t → All Bounded (records t) → result ≡ tree_answer (T.le tariff.now) (T.unit tariff.now) (task_of claim.entry.task.now) claim.entry.sense claim.entry.price.now t }
 {
     let mut records = Records::new(list, shape);
     while let Some((record, rest)) = records.front() {

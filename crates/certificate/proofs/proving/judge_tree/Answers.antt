@@ -10,7 +10,7 @@ use Rattle.certificate.proofs.proving.judge_tree.Goals as goal
 pub returns-then-not-is_one_tree : goal.returns-then-not-is_one_tree
 returns-then-not-is_one_tree g c =
     let task = task_of c.args.claim.task.now in
-    sym (ap (found_answer (g.T.Tariff.le c.args.tariff.now) (g.T.Tariff.unit c.args.tariff.now) task c.args.claim.price.now c.args.top)
+    sym (ap (found_answer (g.T.Tariff.le c.args.tariff.now) (g.T.Tariff.unit c.args.tariff.now) task c.args.claim.sense c.args.claim.price.now c.args.top)
     (no_tree task c.shape-shape.result c.shape-shape.ensures c.args.list.now c.is_one_tree.ensures c.if-not-is_one_tree.true))
 
 pub ask_ranges-requires : goal.ask_ranges-requires
@@ -27,8 +27,8 @@ returns-in_err-ask_ranges g c =
     let u = c.ranges.top in
     let q = err_from_is_err_and c.from_residual.result c.from_residual.ensures.1 in
     q.1 ∙ ap Err q.2
-    ∙ sym (ap (found_answer le unit task c.args.claim.price.now c.args.top) t.2
-    ∙ sym (ap (λ a. before a (tree_answer le unit task c.args.claim.price.now t.0)) (simp to_z-of_z at (c.in_err-ask_ranges.ensures t.0 t.1))))
+    ∙ sym (ap (found_answer le unit task c.args.claim.sense c.args.claim.price.now c.args.top) t.2
+    ∙ sym (ap (λ a. before a (tree_answer le unit task c.args.claim.sense c.args.claim.price.now t.0)) (simp to_z-of_z at (c.in_err-ask_ranges.ensures t.0 t.1))))
 
 pub judge_list-requires : goal.judge_list-requires
 judge_list-requires g c =
@@ -46,5 +46,5 @@ returns g c =
     let u = c.ranges.top in
     let near = simp to_z-of_z at (c.in_ok-ask_ranges.ensures t.0 t.1) in
     c.judge_list.ensures t.0 t.1 (tree_bounded (length task.edges) c.args.top c.requires t.0 near)
-    ∙ sym (ap (found_answer le unit task c.args.claim.price.now c.args.top) t.2
-    ∙ sym (ap (λ a. before a (tree_answer le unit task c.args.claim.price.now t.0)) near))
+    ∙ sym (ap (found_answer le unit task c.args.claim.sense c.args.claim.price.now c.args.top) t.2
+    ∙ sym (ap (λ a. before a (tree_answer le unit task c.args.claim.sense c.args.claim.price.now t.0)) near))

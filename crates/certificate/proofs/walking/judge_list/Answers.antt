@@ -15,7 +15,7 @@ loop-record-init g c t s b =
     let unit = g.T.Tariff.unit c.args.tariff.now in
     let task = task_of c.args.claim.task.now in
     let start = c.new-records.ensures in
-    (records t, (start.ahead t s, record { bounded = b; same = sym ((λ i. leaves_answer le unit task c.args.claim.price.now (start.first.1 i) (left task (start.first.0 i) (records t))) ∙ ap (leaves_answer le unit task c.args.claim.price.now 0) (left_all task t)) }))
+    (records t, (start.ahead t s, record { bounded = b; same = sym ((λ i. leaves_answer le unit task c.args.claim.sense c.args.claim.price.now (start.first.1 i) (left task (start.first.0 i) (records t))) ∙ ap (leaves_answer le unit task c.args.claim.sense c.args.claim.price.now 0) (left_all task t)) }))
 
 pub judge_record-requires : goal.judge_record-requires
 judge_record-requires g c =

@@ -15,7 +15,7 @@ invariant-loop-record g l =
     let unit = g.T.Tariff.unit l.tariff in
     let task = task_of l.claim.task.now in
     (t : Tree) → Spells l.fn.shape.nodes l.fn.shape.rows l.list t → All Bounded (records t) →
-    (rs : List TreeRecord) × (Ahead l.records rs × Judging le unit task l.claim.price.now (tree_answer le unit task l.claim.price.now t) l.records rs)
+    (rs : List TreeRecord) × (Ahead l.records rs × Judging le unit task l.claim.sense l.claim.price.now (tree_answer le unit task l.claim.sense l.claim.price.now t) l.records rs)
 
 abbrev pub decreases-loop-record : goal.decreases-loop-record
 decreases-loop-record g l = length l.records.rest.now

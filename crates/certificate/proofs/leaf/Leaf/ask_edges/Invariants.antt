@@ -9,5 +9,5 @@ use Rattle.certificate.proofs.leaf.Leaf.ask_edges.Given as goal
 
 abbrev pub invariant-loop-edge : goal.invariant-loop-edge
 invariant-loop-edge g l =
-    Passed (edge_ok (g.T.Tariff.le l.tariff) (lines_of l.self) (leaf_held l.self)) (AllowanceShort l.self.number) l.self.claim.task.now.edges.now l.edge l.edge
-    (edges_answer (g.T.Tariff.le l.tariff) (task_of l.self.claim.task.now) (lines_of l.self) (leaf_held l.self) l.self.number)
+    Passed (edge_ok (g.T.Tariff.le l.tariff) l.self.claim.sense (lines_of l.self) (leaf_held l.self)) (AllowanceShort l.self.number) l.self.claim.task.now.edges.now l.edge l.edge
+    (edges_answer (g.T.Tariff.le l.tariff) (task_of l.self.claim.task.now) l.self.claim.sense (lines_of l.self) (leaf_held l.self) l.self.number)
