@@ -1,18 +1,12 @@
 -- The walk by any lawful choice stands, and the rule of step is one.
-use Rattle.std.proofs.Common.{ℕ, ◌<◌, eqb, List, None, refl}
+use Rattle.std.proofs.Common.{ℕ, eqb, List, None, refl}
 use Rattle.std.proofs.lemmas.Bool.{eq-eqb, cond-true}
 use Rattle.task.specs.declared.edges.Edge.{Edge}
-use Rattle.task.specs.Sound.{leaving, Walkable}
-use Rattle.walk.specs.Fewest.{Nearer}
 use Rattle.walk.specs.Rule.{beside, last_exit, next}
 use Rattle.walk.specs.Theorem.{LawfulWalkStands, WalkStands}
 use Rattle.walk.specs.Walks.{Lawful}
 use Rattle.walk.proofs.LawfulWalks.{complete, begun}
-use Rattle.walk.proofs.ShortestWays.{exit_last}
 use Rattle.walk.proofs.TakenEdge.{beside_says, taken_off, chosen}
-
-pub exit_nearer : (es : List Edge) (start end : ℕ) (claimed : List ℕ) → Walkable es start end claimed → (v : ℕ) → 0 < leaving es claimed v → Nearer es claimed end v (last_exit es claimed end v)
-exit_nearer es start end claimed walkable v some = (exit_last es claimed end start walkable v some).is
 
 pub next_lawful : (es : List Edge) (claimed : List ℕ) (end : ℕ) → Lawful es end (last_exit es claimed end) (next es claimed end)
 next_lawful es claimed end = record {
@@ -24,12 +18,7 @@ next_lawful es claimed end = record {
 }
 
 pub lawful_walk_stands : LawfulWalkStands
-lawful_walk_stands es start end claimed ends walkable choose lawful =
-    let nearer = exit_nearer es start end claimed walkable in
-    record {
-      whole = complete es start end claimed walkable (last_exit es claimed end) nearer choose lawful ends;
-      parts = begun es start end claimed walkable (last_exit es claimed end) nearer choose lawful ends;
-    }
+lawful_walk_stands es start end claimed ends walkable choose lawful = record { whole = complete walkable lawful ends; parts = begun walkable lawful ends }
 
 pub walk_stands : WalkStands
 walk_stands es start end claimed ends walkable = lawful_walk_stands es start end claimed ends walkable (next es claimed end) (next_lawful es claimed end)
