@@ -1,6 +1,7 @@
 -- Passes over the edges that lower entries until nothing changes come to the distances.
 use Rattle.std.proofs.Common.{◌^◌, ◌≡◌, ℕ, zero, suc, ◌+◌, ◌<◌, ◌≤◌, Bool, true, false, cond, eqb, List, [], ◌∷◌, length, get_or, set, replicate, refl, ap, ◌∙◌, add-one, arith, length-set}
-use Rattle.std.specs.List.{AllByRecursion}
+use Rattle.std.specs.List.{All}
+use Rattle.std.proofs.lemmas.List.Elements.{All-head, All-tail}
 use Rattle.std.proofs.lemmas.List.{get_or-set_same, get_or-set_other, get_or-replicate, length-replicate}
 use Rattle.std.proofs.lemmas.List.Sums.{sum_by-set}
 use Rattle.std.proofs.lemmas.Bool.{both_ways, false_from_ne_true}
@@ -77,9 +78,12 @@ module _ (es : List Edge) (ts : List ℕ) (end : ℕ) where
 
   -- when nothing shrinks any more, the entries are the distances
   module _ (far : List ℕ) (r : Nearing es ts end far true) where
-    not_higher : (xs : List ℕ) (v : ℕ) → Path es v end xs → AllByRecursion (λ x. 0 < get_or ts x 0) xs → get_or far v 0 ≤ length xs
+    abbrev HasTurn : ℕ → Type 0
+    HasTurn x = 0 < get_or ts x 0
+
+    not_higher : (xs : List ℕ) (v : ℕ) → Path es v end xs → All HasTurn xs → get_or far v 0 ≤ length xs
     not_higher [] v e all = rw e (omega (arith, r.at_end))
-    not_higher (x ∷ xs) v p all = rw (← p.1) (omega (arith, r.done refl x p.0 all.0, not_higher xs (head_of es x) p.2 all.1))
+    not_higher (x ∷ xs) v p all = rw (← p.1) (omega (arith, r.done refl x p.0 (All-head HasTurn x xs all), not_higher xs (head_of es x) p.2 (All-tail HasTurn x xs all)))
 
     entry_is : (v : ℕ) → v < 32 → get_or far v 0 ≡ distance es ts end v
     unfolding distance

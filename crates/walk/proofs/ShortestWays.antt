@@ -1,6 +1,7 @@
 -- The distance of a node is the length of its shortest way to the end, and its last exit is the lowest edge to a node one nearer.
 use Rattle.std.proofs.Common.{◌≡◌, ℕ, zero, suc, ◌+◌, ◌<◌, ◌≤◌, Bool, true, eqb, List, [], ◌∷◌, length, get_or, ◌∙◌, ⊎_elim, arith}
-use Rattle.std.specs.List.{AllByRecursion}
+use Rattle.std.specs.List.{All}
+use Rattle.std.proofs.lemmas.List.Elements.{All-nil, All-cons, All-head, All-tail}
 use Rattle.std.proofs.lemmas.Bool.{eqb-true, eq-eqb, ltb-true, lt-ltb, and_parts, both_ways}
 use Rattle.std.proofs.lemmas.Bool.Decides.{nat_tests}
 use Rattle.task.specs.declared.edges.Edge.{Edge}
@@ -26,17 +27,20 @@ module _ (es : List Edge) (claimed : List ℕ) (end : ℕ) where
       let hop = ways.hop_from (length es) (tail_of es) (head_of es) (has_turns claimed) end v x e (lt-ltb 0 (get_or claimed x 0) held) in
       ways.within_on (length es) (tail_of es) (head_of es) (has_turns claimed) end k v (record { number = x; link = low; hops = hop; near = on })
 
-  path_near : (xs : List ℕ) (v : ℕ) → Path es v end xs → AllByRecursion (λ x. 0 < get_or claimed x 0) xs → near es claimed end (length xs) v ≡ true
+  abbrev HasTurn : ℕ → Type 0
+  HasTurn x = 0 < get_or claimed x 0
+
+  path_near : (xs : List ℕ) (v : ℕ) → Path es v end xs → All HasTurn xs → near es claimed end (length xs) v ≡ true
   path_near [] v e all = eq-eqb v end e
-  path_near (x ∷ xs) v p all = near_on (length xs) v x p.0 p.1 all.0 (path_near xs (head_of es x) p.2 all.1)
+  path_near (x ∷ xs) v p all = near_on (length xs) v x p.0 p.1 (All-head HasTurn x xs all) (path_near xs (head_of es x) p.2 (All-tail HasTurn x xs all))
 
   abbrev onward : (v x : ℕ) → x < length es → tail_of es x ≡ v → 0 < get_or claimed x 0 → Reaches es claimed end (head_of es x) → Reaches es claimed end v
-  onward v x low e held way = (x ∷ way.0, (low, e, way.1), (held, way.2))
+  onward v x low e held way = (x ∷ way.0, (low, e, way.1), All-cons HasTurn x way.0 held way.2)
 
   pub near_way : (k v : ℕ) → near es claimed end k v ≡ true → (way : Reaches es claimed end v) × (length way.0 ≤ k)
-  near_way zero v h = (([], eqb-true v end h, tt), omega arith)
+  near_way zero v h = (([], eqb-true v end h, All-nil HasTurn), omega arith)
   near_way (suc k) v h = ⊎_elim
-      (λ e. (([], e, tt), omega arith))
+      (λ e. (([], e, All-nil HasTurn), omega arith))
       (λ on.
       let x = on.number in
       let s = near_way k (head_of es x) on.near in
@@ -79,14 +83,15 @@ module _ (es : List Edge) (claimed : List ℕ) (end : ℕ) where
   nearer_leads v x n = leads v x n.leaves n.held (omega (arith, fewest_is v (suc n.far) n.from, fewest_is (head_of es x) n.far n.to))
 
   -- the first edge of a shortest way leads one nearer
-  some_nearer : (v : ℕ) → (v ≡ end → ⊥) → (xs : List ℕ) → Path es v end xs → AllByRecursion (λ x. 0 < get_or claimed x 0) xs → length xs ≡ distance es claimed end v →
+  some_nearer : (v : ℕ) → (v ≡ end → ⊥) → (xs : List ℕ) → Path es v end xs → All HasTurn xs → length xs ≡ distance es claimed end v →
       (x : ℕ) × (x < length es) × (leads_nearer es claimed end v x ≡ true)
   some_nearer v off [] e all long = absurd (off e)
   some_nearer v off (x ∷ xs) p all long =
-      let way : Reaches es claimed end (head_of es x) = (xs, p.2, all.1) in
+      let way : Reaches es claimed end (head_of es x) = (xs, p.2, All-tail HasTurn x xs all) in
       let g = fewest (head_of es x) way in
-      let one : distance es claimed end (head_of es x) + 1 ≡ distance es claimed end v = omega (arith, long, no_longer (head_of es x) way, g.long, no_longer v (onward v x p.0 p.1 all.0 g.way)) in
-      (x, p.0, leads v x p.1 all.0 one)
+      let held = All-head HasTurn x xs all in
+      let one : distance es claimed end (head_of es x) + 1 ≡ distance es claimed end v = omega (arith, long, no_longer (head_of es x) way, g.long, no_longer v (onward v x p.0 p.1 held g.way)) in
+      (x, p.0, leads v x p.1 held one)
 
   module _ (start : ℕ) (walkable : Walkable es start end claimed) (v : ℕ) where
     is_nearer : (x : ℕ) → x < length es → leads_nearer es claimed end v x ≡ true → Nearer es claimed end v x
