@@ -14,3 +14,4 @@ pub mod Checks
 mod Costs
 pub mod Words
 pub mod Smalls
+pub mod Made
