@@ -18,18 +18,15 @@ asked false refusal r x is = cc
 -- the edge is that of its numbers, between nodes of 31 at most
 pub record Made (n : NewEdge) (e : Edge) : Type 0 where
   pub is : e ≡ edge_of n
-  pub low_tail : e.tail ≤ 31
-  pub low_head : e.head ≤ 31
+  pub low_tail : n.tail ≤ 31
+  pub low_head : n.head ≤ 31
 
 pub edge_taken : (n : NewEdge) (e : Edge) → edge_made n ≡ Ok e → Made n e
 edge_taken n e is =
     let first = asked (leb n.tail 31 && (leb n.head 31 && leb n.block 63)) _ _ e is in
     let second = asked (leb n.cycles 65535 && leb n.reads 65535) _ _ e first.1 in
-    let same : e ≡ edge_of n = cc (second.1) in
     let nodes = and_parts (leb n.tail 31) (leb n.head 31 && leb n.block 63) first.0 in
-    let low_tail = leb-true n.tail 31 nodes.0 in
-    let low_head = leb-true n.head 31 (and_parts (leb n.head 31) (leb n.block 63) nodes.1).0 in
-    record { is = same; low_tail = rw same low_tail; low_head = rw same low_head }
+    record { is = cc (second.1); low_tail = leb-true n.tail 31 nodes.0; low_head = leb-true n.head 31 (and_parts (leb n.head 31) (leb n.block 63) nodes.1).0 }
 
 by_ranges : (k : ℤ) (cs : List ℤ) (o : Option Row) (row : Row) → in_ranges k cs o ≡ Ok row → o ≡ Some row
 by_ranges k cs None row is = cc
