@@ -1,5 +1,5 @@
 -- Every call keeps what a case holds by its history.
-use Rattle.std.proofs.Common.{◌≡◌, ℕ, Bool, true, List, [], ◌∷◌, ◌++◌, length, ltb, ℤ, Some, None, Ok, Err, Option, Result, sym, refl, ap, ◌∙◌, subst, append-nil}
+use Rattle.std.proofs.Common.{◌≡◌, ℕ, Bool, true, List, [], ◌∷◌, ◌++◌, length, ltb, ℤ, Some, None, Ok, Err, Option, Result, sym, refl, ap, ◌∙◌, subst, inl, inr, append-nil}
 use Rattle.std.proofs.lemmas.List.Elements.{All-nil, All-push}
 use Rattle.price.specs.Laws.{Laws}
 use Rattle.price.specs.Pairs.{Pair}
@@ -24,12 +24,13 @@ use Rattle.judge.specs.declared.refusals.Refusal.TheVariants.{Graph}
 use Rattle.judge.proofs.Accepts.{sound_turns, price_is, best_between, void_between}
 use Rattle.history.specs.Answers.{numbered, ended, priced, unless_refused, stepped, next_or_done, number, ends, price, next, done, agreed, refused, told as tells}
 use Rattle.history.specs.Calls.{Request, edge, row, seal, claim, void, step, withdraw, told}
-use Rattle.history.specs.History.{History, ◌gives◌, with_call}
-use Rattle.history.specs.Known.{opens, voids, hands, closes, quiet, edges_of, rows_of}
+use Rattle.history.specs.History.{Event, History, ◌gives◌, with_call}
+use Rattle.history.specs.Known.{opens, voids, hands, closes, claimed_by, voided_by, edges_of, rows_of}
 use Rattle.history.specs.Performing.{answered, after}
 use Rattle.history.specs.Reaching.{Reached, start, one_more}
 use Rattle.history.proofs.LastEvent.{edges_more, rows_more}
-use Rattle.history.proofs.Meaning.{Low, ByStage, Meaning, claims, void_claims, claims_on, void_claims_on, claim_of, then, moved, unmoved}
+use Rattle.history.proofs.Meaning.{Low, ByStage, Meaning, claim_of, stands_then, stays, moved, unmoved}
+use Rattle.history.proofs.Remaining.{at_first}
 use Rattle.history.proofs.Stepping.{stands_from, holds_first, holds_next}
 
 is_drafted : (stage : Stage) → is_draft stage ≡ true → stage ≡ draft
@@ -52,10 +53,10 @@ module _ (le : Pair → Pair → Bool) (unit : Pair) (laws : Laws le unit) (h : 
   still_so q r c m = unmoved le h (q gives refused r) c refl refl refl m
 
   -- a draft stays one, whatever its edges and rows
-  drafted : (c : Contents) (es : List Edge) (rows : List Row) → is_draft c.stage ≡ true → Meaning le h c → ByStage le (claims h) (void_claims h) es rows c.stage
+  drafted : (c : Contents) (es : List Edge) (rows : List Row) → is_draft c.stage ≡ true → Meaning le h c → ByStage le h es rows c.stage
   drafted c es rows is m =
       let d = is_drafted c.stage is in
-      subst (ByStage le (claims h) (void_claims h) es rows) (sym d) (subst (ByStage le (claims h) (void_claims h) c.edges c.rows) d m.stage)
+      subst (ByStage le h es rows) (sym d) (subst (ByStage le h c.edges c.rows) d m.stage)
 
   -- ---- drafting
 
@@ -70,7 +71,7 @@ module _ (le : Pair → Pair → Bool) (unit : Pair) (laws : Laws le unit) (h : 
         edges = edges_more h event ∙ ap (λ l. l ++ (edge_of new ∷ [])) m.edges;
         rows = rows_more h event ∙ append-nil (rows_of h) ∙ m.rows;
         low = All-push Low c.edges (edge_of new) m.low (record { tail = taken.low_tail; head = taken.low_head });
-        stage = then le h event quiet refl (c.edges ++ (edge_of new ∷ [])) c.rows c.stage (drafted c (c.edges ++ (edge_of new ∷ [])) c.rows first.0 m);
+        stage = stays le h event refl (c.edges ++ (edge_of new ∷ [])) c.rows c.stage (drafted c (c.edges ++ (edge_of new ∷ [])) c.rows first.0 m);
       }
 
   by_row : (relation k : ℤ) (cs : List ℤ) (c : Contents) (r : Result ℕ Refusal) → row_answer c relation k cs ≡ r → Meaning le h c →
@@ -83,16 +84,17 @@ module _ (le : Pair → Pair → Bool) (unit : Pair) (laws : Laws le unit) (h : 
         edges = edges_more h event ∙ append-nil (edges_of h) ∙ m.edges;
         rows = rows_more h event ∙ ap (λ l. l ++ added) m.rows;
         low = m.low;
-        stage = then le h event quiet refl c.edges (c.rows ++ added) c.stage (drafted c c.edges (c.rows ++ added) (asked (is_draft c.stage) _ _ n is).0 m);
+        stage = stays le h event refl c.edges (c.rows ++ added) c.stage (drafted c c.edges (c.rows ++ added) (asked (is_draft c.stage) _ _ n is).0 m);
       }
 
   by_seal : (c : Contents) (r : Result (ℕ × ℕ) Refusal) → seal_answer c ≡ r → Meaning le h c → Meaning le (with_call h seal (ended r)) (seal_kept r c)
   by_seal c (Err refusal) is m = still_so seal refusal c m
   by_seal c (Ok both) is m =
       let first = asked (is_draft c.stage) _ _ both is in
-      let none : ByStage le (claims h) (void_claims h) c.edges c.rows draft = subst (ByStage le (claims h) (void_claims h) c.edges c.rows) (is_drafted c.stage first.0) m.stage in
+      let none : ByStage le h c.edges c.rows draft = subst (ByStage le h c.edges c.rows) (is_drafted c.stage first.0) m.stage in
       let two = (exactly c.edges (ends_answer c.edges) both.0 both.1 (answer_says c.edges)).0 (same_ends (ends_answer c.edges) both first.1) in
-      moved le h (seal gives ends both.0 both.1) c (sealed both.0 both.1) quiet refl refl refl (none.0, none.1, two) m
+      let event = seal gives ends both.0 both.1 in
+      moved le h event c (sealed both.0 both.1) refl refl (stays le h event refl c.edges c.rows draft none, two) m
 
   -- ---- claims
 
@@ -101,20 +103,19 @@ module _ (le : Pair → Pair → Bool) (unit : Pair) (laws : Laws le unit) (h : 
   by_claim ts xs c (Err refusal) is m = still_so (claim ts xs) refusal c m
   by_claim ts xs c (Ok p) is m = go c.stage is m.stage
     where
-      go : (stage : Stage) → claim_answer Longest le unit (record c { stage = stage }) ts xs ≡ Ok p → ByStage le (claims h) (void_claims h) c.edges c.rows stage →
+      go : (stage : Stage) → claim_answer Longest le unit (record c { stage = stage }) ts xs ≡ Ok p → ByStage le h c.edges c.rows stage →
           Meaning le (with_call h (claim ts xs) (price p)) (claim_kept Longest (Ok p) (record c { stage = stage }) ts)
       go draft passed by = cc
       go (standing s e other) passed by = cc
       go (voided s e) passed by = cc
-      go (sealed s e) passed (no_claim, no_void, two) =
+      go (sealed s e) passed (none, two) =
+          let event = claim ts xs gives price p in
           let held = stands_from Longest p c.edges s e ts in
-          let b = opens (claim_of held ts) in
-          moved le h (claim ts xs gives price p) c (standing s e held) b refl refl refl
+          moved le h event c (standing s e held) refl refl
           (record {
             turns = ts;
             handed = [];
-            one = ap (claims_on b) no_claim;
-            no_void = ap (void_claims_on b) no_void;
+            stood = stands_then le h event (opens (claim_of held ts)) refl None None (inl refl) (inl refl) none;
             holds = holds_first Longest le c.edges c.rows s e ts p two (sound_turns Longest le unit c.edges c.rows s e ts xs p passed) (price_is Longest le unit c.edges c.rows s e ts xs p passed)
                 (best_between Longest le unit c.edges c.rows s e ts xs p passed laws two).0;
           }) m
@@ -123,14 +124,15 @@ module _ (le : Pair → Pair → Bool) (unit : Pair) (laws : Laws le unit) (h : 
   by_void xs c (Err refusal) is m = still_so (void xs) refusal c m
   by_void xs c (Ok _) is m = go c.stage is m.stage
     where
-      go : (stage : Stage) → void_answer le unit (record c { stage = stage }) xs ≡ Ok tt → ByStage le (claims h) (void_claims h) c.edges c.rows stage →
+      go : (stage : Stage) → void_answer le unit (record c { stage = stage }) xs ≡ Ok tt → ByStage le h c.edges c.rows stage →
           Meaning le (with_call h (void xs) agreed) (void_kept (Ok tt) (record c { stage = stage }))
       go draft passed by = cc
       go (standing s e other) passed by = cc
       go (voided s e) passed by = cc
-      go (sealed s e) passed (no_claim, no_void, two) =
-          moved le h (void xs gives agreed) c (voided s e) voids refl refl refl
-          (no_claim, ([], ap (void_claims_on voids) no_void), two, (void_between le unit laws c.edges c.rows xs s e two passed).no_run) m
+      go (sealed s e) passed (none, two) =
+          let event = void xs gives agreed in
+          moved le h event c (voided s e) refl refl
+          ([], (stands_then le h event voids refl None None (inl refl) (inl refl) none, two, (void_between le unit laws c.edges c.rows xs s e two passed).no_run)) m
 
   -- ---- steps, and claims taken back
 
@@ -144,28 +146,31 @@ module _ (le : Pair → Pair → Bool) (unit : Pair) (laws : Laws le unit) (h : 
       go (voided s e) n = still_so step _ _ n
       go (standing s e held) n = taken_or_done (next_of c.edges e held.walk) refl n.stage
         where
-          taken_or_done : (r : Option ℕ) → next_of c.edges e held.walk ≡ r → ByStage le (claims h) (void_claims h) c.edges c.rows (standing s e held) →
+          taken_or_done : (r : Option ℕ) → next_of c.edges e held.walk ≡ r → ByStage le h c.edges c.rows (standing s e held) →
               Meaning le (with_call h step (next_or_done r)) (record c { stage = standing s e (record held { walk = walk_on c.edges held.walk r }) })
           taken_or_done None is by = unmoved le h (step gives done) _ refl refl refl n
           taken_or_done (Some x) is by =
-              moved le h (step gives next x) _ _ (hands x) refl refl refl
+              let event = step gives next x in
+              moved le h event _ _ refl refl
               (record {
                 turns = by.turns;
                 handed = by.handed ++ (x ∷ []);
-                one = ap (claims_on (hands x)) by.one;
-                no_void = ap (void_claims_on (hands x)) by.no_void;
+                stood = stands_then le h event (hands x) refl (Some (claim_of held by.turns, by.handed)) None (inr refl) (inl refl) by.stood;
                 holds = holds_next le c.edges c.rows s e held by.turns by.handed n.low by.holds x is;
               }) n
 
   by_withdraw : (c : Contents) → Meaning le h c → Meaning le (with_call h withdraw (unless_refused (withdraw_answer c))) (withdraw_kept c)
   by_withdraw c m = go c.stage m m.stage
     where
-      go : (stage : Stage) → Meaning le h (record c { stage = stage }) → ByStage le (claims h) (void_claims h) c.edges c.rows stage →
+      event : Event
+      event = withdraw gives agreed
+
+      go : (stage : Stage) → Meaning le h (record c { stage = stage }) → ByStage le h c.edges c.rows stage →
           Meaning le (with_call h withdraw (unless_refused (withdraw_answer (record c { stage = stage })))) (withdraw_kept (record c { stage = stage }))
       go draft n by = still_so withdraw _ _ n
       go (sealed s e) n by = still_so withdraw _ _ n
-      go (standing s e held) n by = moved le h (withdraw gives agreed) _ (sealed s e) closes refl refl refl (refl, refl, by.holds.ends) n
-      go (voided s e) n (no_claim, one, two, no_run) = moved le h (withdraw gives agreed) _ (sealed s e) closes refl refl refl (refl, refl, two) n
+      go (standing s e held) n by = moved le h event _ (sealed s e) refl refl (stands_then le h event closes refl (Some (claim_of held by.turns, by.handed)) None (inr refl) (inl refl) by.stood, by.holds.ends) n
+      go (voided s e) n (handed, (stood, two, no_run)) = moved le h event _ (sealed s e) refl refl (stands_then le h event closes refl None (Some (tt, handed)) (inl refl) (inr refl) stood, two) n
 
   by_call : (c : Contents) (q : Request) → Meaning le h c → Meaning le (with_call h q (answered le unit c q)) (after le unit c q)
   by_call c (edge new) = by_edge new c (edge_answer c new) refl
@@ -179,5 +184,5 @@ module _ (le : Pair → Pair → Bool) (unit : Pair) (laws : Laws le unit) (h : 
 
 module _ (le : Pair → Pair → Bool) (unit : Pair) (laws : Laws le unit) where
   pub meaning : {h : History} {c : Contents} → Reached le unit h c → Meaning le h c
-  meaning start = record { edges = refl; rows = refl; low = All-nil Low; stage = (refl, refl) }
+  meaning start = record { edges = refl; rows = refl; low = All-nil Low; stage = (at_first claimed_by (λ x. refl) refl, at_first voided_by (λ x. refl) refl) }
   meaning (one_more {h} {c} q r) = by_call le unit laws h c q (meaning r)

@@ -28,8 +28,7 @@ use Rattle.history.specs.Rules.{HandsOut, Tells, Rules}
 use Rattle.history.proofs.Calling.{meaning}
 use Rattle.history.proofs.Handed.{begun, left_same, hands_out}
 use Rattle.history.proofs.LastEvent.{nil_is_no_cons, Last, here, inside, last}
-use Rattle.history.proofs.Meaning.{Low, claims, void_claims, claim_of, Holds, ByStage, Meaning}
-use Rattle.history.proofs.Remaining.{none_stands, the_one, one_stands}
+use Rattle.history.proofs.Meaning.{Low, Holds, OneClaim, ByStage, Meaning}
 use Rattle.history.proofs.Stepping.{step_says}
 
 -- ---- what led to each moment
@@ -100,13 +99,6 @@ same_stage Longest Longest Certified Certified is = (refl, refl)
 past_sealed : (s : Sense) (p : Proof) → stage_number s p ≡ 2
 past_sealed Longest Certified = refl
 
-module _ (h : History) where
-  no_claim_stands : claims h ≡ [] → Stands h → ⊥
-  no_claim_stands = none_stands claimed_by (λ x. refl) refl h
-
-  never_void : void_claims h ≡ [] → Void h → ⊥
-  never_void = none_stands voided_by (λ x. refl) refl h
-
 module _ (le : Pair → Pair → Bool) (h : History) where
   -- what is held of the claim that stands, by what was claimed
   record Facts (es : List Edge) (rows : List Row) (s e : ℕ) (held : Standing) (what : Claimed) (handed : List ℕ) : Type 0 where
@@ -115,11 +107,8 @@ module _ (le : Pair → Pair → Bool) (h : History) where
     price_is : held.price ≡ what.price
     holds : Holds le es rows s e held what.turns handed
 
-  facts : (es : List Edge) (rows : List Row) (s e : ℕ) (held : Standing) (ts handed : List ℕ) → claims h ≡ (claim_of held ts, handed) ∷ [] → Holds le es rows s e held ts handed →
-      (k : Stands h) → Facts es rows s e held k.what (steps k)
-  facts es rows s e held ts handed one holds k =
-      subst (λ o. Facts es rows s e held o.0 o.1) (the_one claimed_by (λ x. refl) refl h (claim_of held ts, handed) one k)
-      (record { sense_is = refl; proof_is = refl; price_is = refl; holds = holds })
+  facts : (es : List Edge) (rows : List Row) (s e : ℕ) (held : Standing) → (by : OneClaim le h es rows s e held) → (k : Stands h) → Facts es rows s e held k.what (steps k)
+  facts es rows s e held by k = subst (λ o. Facts es rows s e held o.0 o.1) (by.stood.0.1 k) (record { sense_is = refl; proof_is = refl; price_is = refl; holds = by.holds })
 
   -- a case in which a claim stands
   record Underway (c : Contents) (k : Stands h) : Type 0 where
@@ -132,11 +121,11 @@ module _ (le : Pair → Pair → Bool) (h : History) where
   underway : (c : Contents) → Meaning le h c → (k : Stands h) → Underway c k
   underway c m k = by c.stage refl m.stage
     where
-      by : (stage : Stage) → c.stage ≡ stage → ByStage le (claims h) (void_claims h) c.edges c.rows stage → Underway c k
-      by draft is (no_claim, no_void) = absurd (no_claim_stands h no_claim k)
-      by (sealed s e) is (no_claim, no_void, two) = absurd (no_claim_stands h no_claim k)
-      by (standing s e held) is there = record { start = s; end = e; held = held; stage_is = is; its = facts c.edges c.rows s e held there.turns there.handed there.one there.holds k }
-      by (voided s e) is (no_claim, one, two, no_run) = absurd (no_claim_stands h no_claim k)
+      by : (stage : Stage) → c.stage ≡ stage → ByStage le h c.edges c.rows stage → Underway c k
+      by draft is none = absurd (none.0 k)
+      by (sealed s e) is (none, two) = absurd (none.0 k)
+      by (standing s e held) is there = record { start = s; end = e; held = held; stage_is = is; its = facts c.edges c.rows s e held there k }
+      by (voided s e) is (handed, (stood, two, no_run)) = absurd (stood.0 k)
 
   best_there : (c : Contents) (k : Stands h) → Underway c k → k.what.proof ≡ Certified → Best k.what.sense (no_better k.what.sense le) c.edges c.rows k.what.price
   best_there c k u proved =
@@ -145,11 +134,11 @@ module _ (le : Pair → Pair → Bool) (h : History) where
   none_void : (c : Contents) → Meaning le h c → Void h → (run : List ℕ) → KeepsAll c.edges c.rows run → ⊥
   none_void c m v = by c.stage m.stage
     where
-      by : (stage : Stage) → ByStage le (claims h) (void_claims h) c.edges c.rows stage → (run : List ℕ) → KeepsAll c.edges c.rows run → ⊥
-      by draft (no_claim, no_void) run keeps = never_void h no_void v
-      by (sealed s e) (no_claim, no_void, two) run keeps = never_void h no_void v
-      by (standing s e held) there run keeps = never_void h there.no_void v
-      by (voided s e) (no_claim, one, two, no_run) run keeps = no_run run keeps
+      by : (stage : Stage) → ByStage le h c.edges c.rows stage → (run : List ℕ) → KeepsAll c.edges c.rows run → ⊥
+      by draft none run keeps = none.1 v
+      by (sealed s e) (none, two) run keeps = none.1 v
+      by (standing s e held) there run keeps = there.stood.1 v
+      by (voided s e) (handed, (stood, two, no_run)) run keeps = no_run run keeps
 
   -- where no claim stands told shows the stage alone
   idle_tells : (n : ℕ) → ((s : Sense) (p : Proof) → n ≡ stage_number s p → ⊥) → (Stands h → ⊥) → ((n ≡ 3) ↔ Void h) → Tells h (only_stage n)
@@ -177,23 +166,20 @@ module _ (le : Pair → Pair → Bool) (h : History) where
       ends_when : (held.walk.at ≡ e) ↔ (length (steps k) ≡ sum k.what.turns)
       ends_when = (λ there. its_begun.done.0 (its.holds.stands.at_is ∙ there), λ all. sym its.holds.stands.at_is ∙ its_begun.done.1 all)
 
-    tells_by : (stage : Stage) → ByStage le (claims h) (void_claims h) es rows stage → Tells h (told_in stage)
-    tells_by draft (no_claim, no_void) =
-        idle_tells 0 (λ t p is. omega (arith, past_sealed t p)) (no_claim_stands h no_claim) (λ is. absurd (omega arith), λ v. absurd (never_void h no_void v))
-    tells_by (sealed s e) (no_claim, no_void, two) =
-        idle_tells 1 (λ t p is. omega (arith, past_sealed t p)) (no_claim_stands h no_claim) (λ is. absurd (omega arith), λ v. absurd (never_void h no_void v))
-    tells_by (voided s e) (no_claim, one, two, no_run) =
-        idle_tells 3 (λ t p is. omega (arith, past_sealed t p)) (no_claim_stands h no_claim) (λ _. one_stands voided_by (λ x. refl) refl h (tt, one.0) one.1, λ _. refl)
+    tells_by : (stage : Stage) → ByStage le h es rows stage → Tells h (told_in stage)
+    tells_by draft none = idle_tells 0 (λ t p is. omega (arith, past_sealed t p)) none.0 (λ is. absurd (omega arith), λ v. absurd (none.1 v))
+    tells_by (sealed s e) (none, two) = idle_tells 1 (λ t p is. omega (arith, past_sealed t p)) none.0 (λ is. absurd (omega arith), λ v. absurd (none.1 v))
+    tells_by (voided s e) (handed, (stood, two, no_run)) = idle_tells 3 (λ t p is. omega (arith, past_sealed t p)) stood.0 (λ _. stood.1.0, λ _. refl)
     tells_by (standing s e held) by =
-        let its : (k : Stands h) → Facts es rows s e held k.what (steps k) = facts es rows s e held by.turns by.handed by.one by.holds in
-        let there : Stands h = one_stands claimed_by (λ x. refl) refl h (claim_of held by.turns, by.handed) by.one in
+        let its : (k : Stands h) → Facts es rows s e held k.what (steps k) = facts es rows s e held by in
+        let there : Stands h = by.stood.0.0 in
         record {
           stands = λ t p. (
             λ is. let same = same_stage held.sense t held.proof p is in (there, sym (its there).sense_is ∙ same.0, sym (its there).proof_is ∙ same.1),
             λ k. (λ i. stage_number (((its k.0).sense_is ∙ k.1) i) (((its k.0).proof_is ∙ k.2) i)),
           );
           price = λ k. (its k).price_is;
-          void = (λ is. absurd (omega (arith, past_sealed held.sense held.proof)), λ v. absurd (never_void h by.no_void v));
+          void = (λ is. absurd (omega (arith, past_sealed held.sense held.proof)), λ v. absurd (by.stood.1 v));
           steps_told = λ k. omega (arith, sums s e held k (its k));
           left_told = λ k. ap sum (left_is s e held k (its k));
           together = λ k. omega (arith, sums s e held k (its k), (its k).holds.all_is);

@@ -1,5 +1,5 @@
 -- What a case holds, by its history: what each stage means.
-use Rattle.std.proofs.Common.{◌≡◌, ℕ, ◌≤◌, Bool, cond, List, [], ◌∷◌, ◌++◌, sum, All, sym, refl, ap, ◌∙◌, subst₂, append-nil}
+use Rattle.std.proofs.Common.{◌≡◌, ℕ, ◌≤◌, Bool, cond, ◌⊎◌, List, [], ◌∷◌, ◌++◌, sum, All, Some, None, Option, refl, ap, ◌∙◌, inl, inr, append-nil}
 use Rattle.price.specs.Pairs.{Pair}
 use Rattle.price.specs.Senses.{no_better}
 use Rattle.task.specs.Rows.{Row, KeepsAll}
@@ -16,25 +16,16 @@ use Rattle.judge.specs.declared.stages.Proof.TheVariants.{Certified}
 use Rattle.history.specs.History.{Event, History, accepted}
 use Rattle.history.specs.Known.{Claimed, Bearing, quiet, bearing, claimed_by, voided_by, edge_by, row_by, edges_of, rows_of}
 use Rattle.history.proofs.LastEvent.{edges_more, rows_more}
-use Rattle.history.proofs.Remaining.{on, remain, remain_more}
+use Rattle.history.proofs.Remaining.{Alone, on, then}
 
 -- an edge between two of the nodes 0 to 31
 pub record Low (e : Edge) : Type 0 where
   pub tail : e.tail ≤ 31
   pub head : e.head ≤ 31
 
--- the claims of a history that are not closed, and its void claims: each with the edges handed out since
-abbrev pub claims : History → List (Claimed × List ℕ)
-claims = remain claimed_by (λ x. refl) refl
-
-abbrev pub void_claims : History → List (Unit {0} × List ℕ)
-void_claims = remain voided_by (λ x. refl) refl
-
-abbrev pub claims_on : Bearing → List (Claimed × List ℕ) → List (Claimed × List ℕ)
-claims_on = on claimed_by (λ x. refl) refl
-
-abbrev pub void_claims_on : Bearing → List (Unit {0} × List ℕ) → List (Unit {0} × List ℕ)
-void_claims_on = on voided_by (λ x. refl) refl
+-- in this history these stand alone: a claim, and a void claim
+abbrev pub Stood : Option (Claimed × List ℕ) → Option (Unit {0} × List ℕ) → History → Type 0
+Stood claimed voided h = Alone claimed_by (λ x. refl) refl claimed h × Alone voided_by (λ x. refl) refl voided h
 
 -- what was claimed by turns for which this stands
 abbrev pub claim_of : Standing → List ℕ → Claimed
@@ -51,46 +42,50 @@ module _ (le : Pair → Pair → Bool) where
     pub exits_are : claim.walk.exits ≡ exit_table es ts e
     pub stands : WalkAt es s e ts handed claim.walk.left claim.walk.at
 
-  -- one claim is not closed, and no void claim
-  pub record OneClaim (cs : List (Claimed × List ℕ)) (vs : List (Unit {0} × List ℕ)) (es : List Edge) (rows : List Row) (s e : ℕ) (claim : Standing) : Type 0 where
+  pub record OneClaim (h : History) (es : List Edge) (rows : List Row) (s e : ℕ) (claim : Standing) : Type 0 where
     pub turns : List ℕ
     pub handed : List ℕ
-    pub one : cs ≡ (claim_of claim turns, handed) ∷ []
-    pub no_void : vs ≡ []
+    pub stood : Stood (Some (claim_of claim turns, handed)) None h
     pub holds : Holds es rows s e claim turns handed
 
-  -- of the claims and the void claims that are not closed
-  abbrev pub ByStage : List (Claimed × List ℕ) → List (Unit {0} × List ℕ) → List Edge → List Row → Stage → Type 0
-  ByStage cs vs es rows draft = (cs ≡ []) × (vs ≡ [])
-  ByStage cs vs es rows (sealed s e) = (cs ≡ []) × (vs ≡ []) × Ends es s e
-  ByStage cs vs es rows (standing s e claim) = OneClaim cs vs es rows s e claim
-  ByStage cs vs es rows (void s e) =
-      (cs ≡ []) × ((handed : List ℕ) × (vs ≡ (tt, handed) ∷ [])) × Ends es s e × ((run : List ℕ) → KeepsAll es rows run → ⊥)
+  abbrev pub ByStage : History → List Edge → List Row → Stage → Type 0
+  ByStage h es rows draft = Stood None None h
+  ByStage h es rows (sealed s e) = Stood None None h × Ends es s e
+  ByStage h es rows (standing s e claim) = OneClaim h es rows s e claim
+  ByStage h es rows (void s e) = (handed : List ℕ) × (Stood None (Some (tt, handed)) h × Ends es s e × ((run : List ℕ) → KeepsAll es rows run → ⊥))
 
   pub record Meaning (h : History) (c : Contents) : Type 0 where
     pub edges : edges_of h ≡ c.edges
     pub rows : rows_of h ≡ c.rows
     pub low : All Low c.edges
-    pub stage : ByStage (claims h) (void_claims h) c.edges c.rows c.stage
+    pub stage : ByStage h c.edges c.rows c.stage
 
   module _ (h : History) (e : Event) where
-    -- one event more, by its bearing
-    pub then : (b : Bearing) → bearing e ≡ b → (es : List Edge) (rows : List Row) (stage : Stage) → ByStage (claims_on b (claims h)) (void_claims_on b (void_claims h)) es rows stage →
-        ByStage (claims (h ++ (e ∷ []))) (void_claims (h ++ (e ∷ []))) es rows stage
-    then b is es rows stage by = subst₂ (λ cs vs. ByStage cs vs es rows stage)
-        (ap (λ x. claims_on x (claims h)) (sym is) ∙ sym (remain_more claimed_by (λ x. refl) refl h e))
-        (ap (λ x. void_claims_on x (void_claims h)) (sym is) ∙ sym (remain_more voided_by (λ x. refl) refl h e)) by
+    -- what stands behind an event of this bearing
+    pub stands_then : (b : Bearing) → bearing e ≡ b → (claimed : Option (Claimed × List ℕ)) (voided : Option (Unit {0} × List ℕ)) →
+        (claimed ≡ None) ⊎ (claimed_by b ≡ None) → (voided ≡ None) ⊎ (voided_by b ≡ None) → Stood claimed voided h →
+        Stood (on claimed_by (λ x. refl) refl b claimed) (on voided_by (λ x. refl) refl b voided) (h ++ (e ∷ []))
+    stands_then b is claimed voided one alone stood =
+        (then claimed_by (λ x. refl) refl h e b is claimed one stood.0, then voided_by (λ x. refl) refl h e b is voided alone stood.1)
 
-    -- one that adds no edge and no row
-    pub moved : (c : Contents) (stage : Stage) (b : Bearing) → bearing e ≡ b → cond (accepted e.answer) (edge_by e.call) [] ≡ [] → cond (accepted e.answer) (row_by e.call) [] ≡ [] →
-        ByStage (claims_on b (claims h)) (void_claims_on b (void_claims h)) c.edges c.rows stage → Meaning h c → Meaning (h ++ (e ∷ [])) (record c { stage = stage })
-    moved c stage b is no_edge no_row by m = record {
+    -- a quiet event leaves what every stage means
+    pub stays : bearing e ≡ quiet → (es : List Edge) (rows : List Row) (stage : Stage) → ByStage h es rows stage → ByStage (h ++ (e ∷ [])) es rows stage
+    stays is es rows draft by = stands_then quiet is None None (inl refl) (inl refl) by
+    stays is es rows (sealed s t) (stood, two) = (stands_then quiet is None None (inl refl) (inl refl) stood, two)
+    stays is es rows (standing s t claim) by =
+        record { turns = by.turns; handed = by.handed; stood = stands_then quiet is (Some (claim_of claim by.turns, by.handed)) None (inr refl) (inl refl) by.stood; holds = by.holds }
+    stays is es rows (void s t) (handed, (stood, two, no_run)) = (handed, (stands_then quiet is None (Some (tt, handed)) (inl refl) (inr refl) stood, two, no_run))
+
+    -- an event that adds no edge and no row
+    pub moved : (c : Contents) (stage : Stage) → cond (accepted e.answer) (edge_by e.call) [] ≡ [] → cond (accepted e.answer) (row_by e.call) [] ≡ [] →
+        ByStage (h ++ (e ∷ [])) c.edges c.rows stage → Meaning h c → Meaning (h ++ (e ∷ [])) (record c { stage = stage })
+    moved c stage no_edge no_row by m = record {
       edges = edges_more h e ∙ ap (λ l. edges_of h ++ l) no_edge ∙ append-nil (edges_of h) ∙ m.edges;
       rows = rows_more h e ∙ ap (λ l. rows_of h ++ l) no_row ∙ append-nil (rows_of h) ∙ m.rows;
       low = m.low;
-      stage = then b is c.edges c.rows stage by;
+      stage = by;
     }
 
     -- and means nothing for what stands
     pub unmoved : (c : Contents) → bearing e ≡ quiet → cond (accepted e.answer) (edge_by e.call) [] ≡ [] → cond (accepted e.answer) (row_by e.call) [] ≡ [] → Meaning h c → Meaning (h ++ (e ∷ [])) c
-    unmoved c is no_edge no_row m = moved c c.stage quiet is no_edge no_row m.stage m
+    unmoved c is no_edge no_row m = moved c c.stage no_edge no_row (stays is c.edges c.rows c.stage m.stage) m

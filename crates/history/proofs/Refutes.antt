@@ -16,7 +16,7 @@ use Rattle.history.specs.History.{Event, History, ◌gives◌, with_call}
 use Rattle.history.specs.Known.{edges_of, rows_of, closes, bearing, claimed_by, voided_by, Stands, Void}
 use Rattle.history.specs.Refuting.{task, turns, certified, Refuted, HollowAnswersRefuted}
 use Rattle.history.specs.Rules.{HandsOut}
-use Rattle.history.proofs.Remaining.{none_stands}
+use Rattle.history.proofs.Remaining.{at_first, none_left}
 
 abbrev graph : List Edge
 graph = edges_of task
@@ -90,10 +90,10 @@ module _ (le : Pair → Pair → Bool) (tree : List ℤ) (p : Pair) where
   refuted : Refuted le tree p
   unfolding it_stands stands_with
   refuted = record {
-    unclaimed = λ state two rules. none_stands claimed_by (λ x. refl) refl [] refl (((rules.told_tells [] state ([], refl)).stands Longest Certified).0 two).0;
-    unvoided = λ state three rules. none_stands voided_by (λ x. refl) refl [] refl ((rules.told_tells [] state ([], refl)).void.0 three);
+    unclaimed = λ state two rules. at_first claimed_by (λ x. refl) refl (((rules.told_tells [] state ([], refl)).stands Longest Certified).0 two).0;
+    unvoided = λ state three rules. at_first voided_by (λ x. refl) refl ((rules.told_tells [] state ([], refl)).void.0 three);
     withdrawn = λ state two rules. let past = with_call (now tree p) withdraw agreed in
-        none_stands claimed_by (λ x. refl) refl past refl (((rules.told_tells past state ([], refl)).stands Longest Certified).0 two).0;
+        none_left claimed_by (λ x. refl) refl (now tree p) (withdraw gives agreed) refl (((rules.told_tells past state ([], refl)).stands Longest Certified).0 two).0;
     hidden = λ state other rules. other (((rules.told_tells (now tree p) state ([], refl)).stands Longest Certified).1 (it_stands tree p, refl, refl));
     too_cheap = λ dearer rules. let z : T false = subst T dearer ((rules.best (now tree p) ([], refl) (it_stands tree p) refl).none_better the_run it_keeps) in z;
     made_up_price = λ other rules. let out = rules.hands_out (now tree p) ([], refl) (it_stands tree p) in other (sym out.price ∙ ap (price_of Longest graph) out.exact);

@@ -1,11 +1,13 @@
--- What a history opened and has not closed since, kept event by event: just what stands by `Since`, each with the edges handed out since.
-use Rattle.std.proofs.Common.{◌≡◌, ℕ, ◌⊎◌, List, [], ◌∷◌, ◌++◌, map, Some, None, Option, All, ◌≢◌, sym, refl, ap, ◌∙◌, subst, inl, inr, append_assoc, append-nil}
-use Rattle.std.proofs.lemmas.List.Elements.{All-nil, All-cons, All-head, All-tail}
+-- What stands in a history that has one event more.
+use Rattle.std.proofs.Common.{◌≡◌, ℕ, ◌⊎◌, List, [], ◌∷◌, ◌++◌, Some, None, Option, All, ◌≢◌, sym, refl, ap, ◌∙◌, subst, ap₂, inl, inr, append_assoc, append-nil}
+use Rattle.std.proofs.lemmas.List.Elements.{All-nil, All-push}
+use Rattle.std.specs.Option.{option_map}
 use Rattle.history.specs.History.{Event, History}
 use Rattle.history.specs.Known.{Bearing, opens, voids, hands, closes, quiet, bearing, Since, edge_in, handed_out}
+use Rattle.history.proofs.LastEvent.{Last, here, inside, last, nil_is_no_cons, front_of_all, end_of_all, handed_more}
 
-abbrev OpenSince : History → Type 0
-OpenSince = All (λ e. bearing e ≢ closes)
+abbrev Lasting : Event → Type 0
+Lasting e = bearing e ≢ closes
 
 -- what opens something neither hands out nor closes
 module _ {A : Type 0} (does : Bearing → Option A) (no_hand : (x : ℕ) → does (hands x) ≡ None) (no_close : does closes ≡ None) where
@@ -13,138 +15,93 @@ module _ {A : Type 0} (does : Bearing → Option A) (no_hand : (x : ℕ) → doe
   abbrev Opened : Type 0
   Opened = A × List ℕ
 
-  abbrev newly : Option A → List Opened
-  newly None = []
-  newly (Some a) = (a, []) ∷ []
+  -- in this history nothing stands, or this alone
+  abbrev pub Alone : Option Opened → History → Type 0
+  Alone None h = Since does h → ⊥
+  Alone (Some o) h = Since does h × ((k : Since does h) → o ≡ (k.what, handed_out k.since))
 
-  abbrev hand : ℕ → Opened → Opened
-  hand x o = (o.0, o.1 ++ (x ∷ []))
+  abbrev opened : Option A → Option Opened → Option Opened
+  opened None o = o
+  opened (Some a) None = Some (a, [])
+  opened (Some a) (Some o) = Some o
 
-  abbrev pub on : Bearing → List Opened → List Opened
-  on (hands x) os = map (hand x) os
-  on closes os = []
-  on other os = newly (does other) ++ os
+  -- what stands behind an event of this bearing, if one thing stands at most
+  abbrev pub on : Bearing → Option Opened → Option Opened
+  on closes o = None
+  on (hands x) o = option_map (λ o. (o.0, o.1 ++ (x ∷ []))) o
+  on other o = opened (does other) o
 
-  abbrev pub remain_from : List Opened → History → List Opened
-  remain_from os [] = os
-  remain_from os (e ∷ h) = remain_from (on (bearing e) os) h
+  pub at_first : Since does [] → ⊥
+  at_first k = nil_is_no_cons k.before k.event k.since k.split
 
-  abbrev pub remain : History → List Opened
-  remain h = remain_from [] h
+  module _ (h : History) (e : Event) where
+    -- what stands was opened by the last event, or stood before and was not closed by it
+    data Lately (k : Since does (h ++ (e ∷ []))) : Type 0 where
+      by_it : handed_out k.since ≡ [] → does (bearing e) ≡ Some k.what → Lately k
+      before_it : (j : Since does h) → j.what ≡ k.what → handed_out j.since ++ edge_in (bearing e) ≡ handed_out k.since → Lasting e → Lately k
 
-  from_append : (os : List Opened) (h g : History) → remain_from os (h ++ g) ≡ remain_from (remain_from os h) g
-  from_append os [] g = refl
-  from_append os (e ∷ h) g = from_append (on (bearing e) os) h g
+    lately : (k : Since does (h ++ (e ∷ []))) → Lately k
+    lately k = by (last h e k.before k.event k.since k.split)
+      where
+        by : Last h e k.before k.event k.since → Lately k
+        by (here none same is) = by_it (ap handed_out none) (ap (λ x. does (bearing x)) is ∙ k.opens)
+        by (inside rest more old) =
+            let all = subst (All Lasting) more k.standing in
+            before_it (record { before = k.before; event = k.event; what = k.what; opens = k.opens; since = rest; split = old; standing = front_of_all Lasting rest e all }) refl
+            (sym (ap handed_out more ∙ handed_more rest e)) (end_of_all Lasting rest e all)
 
-  pub remain_more : (h : History) (e : Event) → remain (h ++ (e ∷ [])) ≡ on (bearing e) (remain h)
-  remain_more h e = from_append [] h (e ∷ [])
+    still : Lasting e → Since does h → Since does (h ++ (e ∷ []))
+    still lasting k = record {
+      before = k.before;
+      event = k.event;
+      what = k.what;
+      opens = k.opens;
+      since = k.since ++ (e ∷ []);
+      split = ap (λ l. l ++ (e ∷ [])) k.split ∙ append_assoc k.before (k.event ∷ k.since) (e ∷ []);
+      standing = All-push Lasting k.since e k.standing lasting;
+    }
 
-  abbrev In : Opened → List Opened → Type 0
-  In o [] = ⊥
-  In o (p ∷ os) = (p ≡ o) ⊎ In o os
+    pub none_left : bearing e ≡ closes → Since does (h ++ (e ∷ [])) → ⊥
+    none_left end k = by (lately k)
+      where
+        by : Lately k → ⊥
+        by (by_it none is) = cc (ap does end)
+        by (before_it j same more lasting) = lasting end
 
-  -- ---- what stands remains
+    none_yet : does (bearing e) ≡ None → (Since does h → ⊥) → Since does (h ++ (e ∷ [])) → ⊥
+    none_yet shut none k = by (lately k)
+      where
+        by : Lately k → ⊥
+        by (by_it new is) = cc
+        by (before_it j same more lasting) = none j
 
-  in_map : (x : ℕ) (o : Opened) (os : List Opened) → In o os → In (hand x o) (map (hand x) os)
-  in_map x o [] i = absurd i
-  in_map x o (p ∷ os) (inl is) = inl (ap (hand x) is)
-  in_map x o (p ∷ os) (inr i) = inr (in_map x o os i)
+    goes_on : does (bearing e) ≡ None → Lasting e → (o : Opened) → Alone (Some o) h → Alone (Some (o.0, o.1 ++ edge_in (bearing e))) (h ++ (e ∷ []))
+    goes_on shut lasting o (there, one) = (still lasting there, λ k. by k (lately k))
+      where
+        by : (k : Since does (h ++ (e ∷ []))) → Lately k → ◌≡◌ {A = Opened} (o.0, o.1 ++ edge_in (bearing e)) (k.what, handed_out k.since)
+        by k (by_it new is) = cc
+        by k (before_it j same more _) = ap (λ p. (p.0, p.1 ++ edge_in (bearing e))) (one j) ∙ ap₂ (λ a l. (a, l)) same more
 
-  behind : (new : Option A) (a : A) (hs : List ℕ) (os : List Opened) → In (a, hs) os → In (a, hs ++ []) (newly new ++ os)
-  behind None a hs os i = subst (λ l. In (a, l) os) (sym (append-nil hs)) i
-  behind (Some b) a hs os i = inr (subst (λ l. In (a, l) os) (sym (append-nil hs)) i)
+    begins : (a : A) → does (bearing e) ≡ Some a → (Since does h → ⊥) → Alone (Some (a, [])) (h ++ (e ∷ []))
+    begins a is none = (record { before = h; event = e; what = a; opens = is; since = []; split = refl; standing = All-nil Lasting }, λ k. by k (lately k))
+      where
+        by : (k : Since does (h ++ (e ∷ []))) → Lately k → ◌≡◌ {A = Opened} (a, []) (k.what, handed_out k.since)
+        by k (by_it new same) = let what : a ≡ k.what = cc in ap₂ (λ x l. (x, l)) what (sym new)
+        by k (before_it j same more lasting) = absurd (none j)
 
-  goes_on : (b : Bearing) (a : A) (hs : List ℕ) (os : List Opened) → b ≢ closes → In (a, hs) os → In (a, hs ++ edge_in b) (on b os)
-  goes_on (opens c) a hs os lasting i = behind (does (opens c)) a hs os i
-  goes_on voids a hs os lasting i = behind (does voids) a hs os i
-  goes_on (hands x) a hs os lasting i = in_map x (a, hs) os i
-  goes_on closes a hs os lasting i = absurd (lasting refl)
-  goes_on quiet a hs os lasting i = behind (does quiet) a hs os i
+    other : (b : Bearing) → bearing e ≡ b → Lasting e → edge_in b ≡ [] → (d : Option A) → does b ≡ d → (o : Option Opened) → (o ≡ None) ⊎ (d ≡ None) → Alone o h → Alone (opened d o) (h ++ (e ∷ []))
+    other b is lasting none None shut None one alone = none_yet (ap does is ∙ shut) alone
+    other b is lasting none None shut (Some o) one alone =
+        subst (λ l. Alone (Some (o.0, l)) (h ++ (e ∷ []))) (ap (λ x. o.1 ++ x) (ap edge_in is ∙ none) ∙ append-nil o.1) (goes_on (ap does is ∙ shut) lasting o alone)
+    other b is lasting none (Some a) new None one alone = begins a (ap does is ∙ new) alone
+    other b is lasting none (Some a) new (Some o) (inl one) alone = cc
+    other b is lasting none (Some a) new (Some o) (inr one) alone = cc
 
-  lasts : (a : A) (hs : List ℕ) (os : List Opened) (h : History) → OpenSince h → In (a, hs) os → In (a, hs ++ handed_out h) (remain_from os h)
-  lasts a hs os [] all i = subst (λ l. In (a, l) os) (sym (append-nil hs)) i
-  lasts a hs os (e ∷ h) all i =
-      subst (λ l. In (a, l) (remain_from (on (bearing e) os) h)) (append_assoc hs (edge_in (bearing e)) (handed_out h))
-      (lasts a (hs ++ edge_in (bearing e)) (on (bearing e) os) h (All-tail (λ x. bearing x ≢ closes) e h all)
-      (goes_on (bearing e) a hs os (All-head (λ x. bearing x ≢ closes) e h all) i))
-
-  begins : (b : Bearing) (a : A) (os : List Opened) → does b ≡ Some a → In (a, []) (on b os)
-  begins (opens c) a os is = subst (λ o. In (a, []) (newly o ++ os)) (sym is) (inl refl)
-  begins voids a os is = subst (λ o. In (a, []) (newly o ++ os)) (sym is) (inl refl)
-  begins quiet a os is = subst (λ o. In (a, []) (newly o ++ os)) (sym is) (inl refl)
-  begins (hands x) a os is = cc (no_hand x)
-  begins closes a os is = cc
-
-  remains : (h : History) (k : Since does h) → In (k.what, handed_out k.since) (remain h)
-  remains h k =
-      subst (In (k.what, handed_out k.since)) (sym (ap remain k.split ∙ from_append [] k.before (k.event ∷ k.since)))
-      (lasts k.what [] (on (bearing k.event) (remain k.before)) k.since k.standing (begins (bearing k.event) k.what (remain k.before) k.opens))
-
-  -- ---- what remains stands
-
-  -- it was there before, or was opened since
-  data From (o : Opened) (os : List Opened) (h : History) : Type 0 where
-    there : (p : Opened) → In p os → OpenSince h → o ≡ (p.0, p.1 ++ handed_out h) → From o os h
-    since : (k : Since does h) → o ≡ (k.what, handed_out k.since) → From o os h
-
-  handed_by : (x : ℕ) (o : Opened) (os : List Opened) → In o (map (hand x) os) → (p : Opened) × In p os × (o ≡ hand x p)
-  handed_by x o [] i = absurd i
-  handed_by x o (p ∷ os) (inl is) = (p, inl refl, sym is)
-  handed_by x o (p ∷ os) (inr i) = let r = handed_by x o os i in (r.0, inr r.1, r.2)
-
-  newly_or_there : (new : Option A) (o : Opened) (os : List Opened) → In o (newly new ++ os) → ((a : A) × (new ≡ Some a) × (o ≡ (a, []))) ⊎ In o os
-  newly_or_there None o os i = inr i
-  newly_or_there (Some a) o os (inl is) = inl (a, refl, sym is)
-  newly_or_there (Some a) o os (inr i) = inr i
-
-  module _ (e : Event) (os : List Opened) (h : History) where
-    abbrev opened_here : (a : A) → does (bearing e) ≡ Some a → OpenSince h → Since does (e ∷ h)
-    opened_here a is all = record { before = []; event = e; what = a; opens = is; since = h; split = refl; standing = all }
-
-    one_before : (o q : Opened) → OpenSince h → bearing e ≢ closes → edge_in (bearing e) ≡ [] → (o ≡ (q.0, q.1 ++ handed_out h)) → In q os → From o os (e ∷ h)
-    one_before o q all lasting none is i = there q i (All-cons (λ x. bearing x ≢ closes) e h lasting all) (is ∙ ap (λ l. (q.0, q.1 ++ (l ++ handed_out h))) (sym none))
-
-    by_new : (o p : Opened) → OpenSince h → o ≡ (p.0, p.1 ++ handed_out h) → bearing e ≢ closes → edge_in (bearing e) ≡ [] →
-        ((a : A) × (does (bearing e) ≡ Some a) × (p ≡ (a, []))) ⊎ In p os → From o os (e ∷ h)
-    by_new o p all is lasting none (inl (a, opened, new)) = since (opened_here a opened all) (is ∙ ap (λ q. (q.0, q.1 ++ handed_out h)) new)
-    by_new o p all is lasting none (inr i) = one_before o p all lasting none is i
-
-    by_bearing : (b : Bearing) → bearing e ≡ b → (o p : Opened) → In p (on b os) → OpenSince h → o ≡ (p.0, p.1 ++ handed_out h) → From o os (e ∷ h)
-    by_bearing (opens c) eq o p i all is =
-        by_new o p all is (λ end. cc) (ap edge_in eq) (subst (λ b. ((a : A) × (does b ≡ Some a) × (p ≡ (a, []))) ⊎ In p os) (sym eq) (newly_or_there (does (opens c)) p os i))
-    by_bearing voids eq o p i all is =
-        by_new o p all is (λ end. cc) (ap edge_in eq) (subst (λ b. ((a : A) × (does b ≡ Some a) × (p ≡ (a, []))) ⊎ In p os) (sym eq) (newly_or_there (does voids) p os i))
-    by_bearing quiet eq o p i all is =
-        by_new o p all is (λ end. cc) (ap edge_in eq) (subst (λ b. ((a : A) × (does b ≡ Some a) × (p ≡ (a, []))) ⊎ In p os) (sym eq) (newly_or_there (does quiet) p os i))
-    by_bearing closes eq o p i all is = absurd i
-    by_bearing (hands x) eq o p i all is =
-        let q = handed_by x p os i in
-        there q.0 q.1 (All-cons (λ y. bearing y ≢ closes) e h (λ end. cc) all)
-        (is ∙ ap (λ r. (r.0, r.1 ++ handed_out h)) q.2 ∙ ap (λ l. (q.0.0, l)) (append_assoc q.0.1 (x ∷ []) (handed_out h) ∙ ap (λ b. q.0.1 ++ (edge_in b ++ handed_out h)) (sym eq)))
-
-  came_from : (o : Opened) (os : List Opened) (h : History) → In o (remain_from os h) → From o os h
-  came_from o os [] i = there o i (All-nil (λ x. bearing x ≢ closes)) (ap (λ l. (o.0, l)) (sym (append-nil o.1)))
-  came_from o os (e ∷ h) i = by (came_from o (on (bearing e) os) h i)
-    where
-      by : From o (on (bearing e) os) h → From o os (e ∷ h)
-      by (there p j all is) = by_bearing e os h (bearing e) refl o p j all is
-      by (since k is) = since (record { before = e ∷ k.before; event = k.event; what = k.what; opens = k.opens; since = k.since; split = ap (λ l. e ∷ l) k.split; standing = k.standing }) is
-
-  -- ---- for histories in which one thing stands at most
-
-  pub none_stands : (h : History) → remain h ≡ [] → Since does h → ⊥
-  none_stands h none k = subst (In (k.what, handed_out k.since)) none (remains h k)
-
-  pub the_one : (h : History) (o : Opened) → remain h ≡ o ∷ [] → (k : Since does h) → o ≡ (k.what, handed_out k.since)
-  the_one h o one k = by (subst (In (k.what, handed_out k.since)) one (remains h k))
-    where
-      by : (o ≡ (k.what, handed_out k.since)) ⊎ ⊥ → o ≡ (k.what, handed_out k.since)
-      by (inl is) = is
-      by (inr none) = absurd none
-
-  pub one_stands : (h : History) (o : Opened) → remain h ≡ o ∷ [] → Since does h
-  one_stands h o one = by (came_from o [] h (subst (In o) (sym one) (inl refl)))
-    where
-      by : From o [] h → Since does h
-      by (there p none all is) = absurd none
-      by (since k is) = k
+    pub then : (b : Bearing) → bearing e ≡ b → (o : Option Opened) → (o ≡ None) ⊎ (does b ≡ None) → Alone o h → Alone (on b o) (h ++ (e ∷ []))
+    then closes is o one alone = none_left is
+    then (hands x) is None one alone = none_yet (ap does is ∙ no_hand x) alone
+    then (hands x) is (Some o) one alone =
+        subst (λ b. Alone (Some (o.0, o.1 ++ edge_in b)) (h ++ (e ∷ []))) is (goes_on (ap does is ∙ no_hand x) (λ end. cc (is)) o alone)
+    then (opens c) is o one alone = other (opens c) is (λ end. cc (is)) refl (does (opens c)) refl o one alone
+    then voids is o one alone = other voids is (λ end. cc (is)) refl (does voids) refl o one alone
+    then quiet is o one alone = other quiet is (λ end. cc (is)) refl (does quiet) refl o one alone
