@@ -46,9 +46,6 @@ module _ {es : List Edge} {start end : ℕ} {claimed : List ℕ} (walkable : Wal
       leaving_less : (v : ℕ) → leaving es (one_less left x) v + one_if (eqb v at) ≡ leaving es left v
       leaving_less v = grind (arith, nat_tests, by_one_less (λ d. eqb d.tail v) es left x chosen.edge held, chosen.leaves)
 
-      entering_less : (v : ℕ) → entering es (one_less left x) v + one_if (eqb v (head_of es x)) ≡ entering es left v
-      entering_less v = grind (arith, nat_tests, by_one_less (λ d. eqb d.head v) es left x chosen.edge held)
-
       -- the turn of an exit goes last: where it went, no edge had a turn to spare
       kept_on : (v : ℕ) → 0 < leaving es (one_less left x) v → 0 < get_or (one_less left x) (last_exit es claimed end v) 0
       kept_on v h =
@@ -62,7 +59,7 @@ module _ {es : List Edge} {start end : ℕ} {claimed : List ℕ} (walkable : Wal
       stepped = record {
         sized = length-set left x (get_or left x 0 - 1) ∙ inv.sized;
         claims = λ y. omega (arith, one_less_at left x y held, inv.claims y);
-        balanced = λ v. omega (arith, inv.balanced v, leaving_less v, entering_less v);
+        balanced = λ v. grind (arith, nat_tests, inv.balanced v, leaving_less v, by_one_less (λ d. eqb d.head v) es left x chosen.edge held);
         kept = kept_on;
       }
 

@@ -1,3 +1,4 @@
+pub mod LowestNumbers
 pub mod TurnSums
 pub mod ShortestWays
 pub mod TakenEdge

@@ -1,25 +1,18 @@
 -- The distance of a node is the length of its shortest way to the end, and its last exit is the lowest edge to a node one nearer.
-use Rattle.std.proofs.Common.{◌≡◌, ℕ, zero, suc, ◌+◌, ◌<◌, ◌≤◌, Bool, true, eqb, List, [], ◌∷◌, length, get_or, ◌∙◌, ⊎_elim, arith}
+use Rattle.std.proofs.Common.{◌≡◌, ℕ, zero, suc, ◌+◌, ◌<◌, ◌≤◌, true, eqb, List, [], ◌∷◌, length, get_or, ◌∙◌, ⊎_elim, arith}
 use Rattle.std.specs.List.{All}
 use Rattle.std.proofs.lemmas.List.Elements.{All-nil, All-cons, All-head, All-tail}
-use Rattle.std.proofs.lemmas.Bool.{eqb-true, eq-eqb, ltb-true, lt-ltb, and_parts, both_ways}
+use Rattle.std.proofs.lemmas.Bool.{eqb-true, eq-eqb, ltb-true, lt-ltb, and_parts}
 use Rattle.std.proofs.lemmas.Bool.Decides.{nat_tests}
 use Rattle.task.specs.declared.edges.Edge.{Edge}
 use Rattle.task.specs.Graph.{tail_of, head_of, Path}
-use Rattle.task.specs.Lowest.{lowest}
 use Rattle.task.specs.Sound.{leaving, Reaches, Walkable}
-use Rattle.task.proofs.Lowest.{lowest_passes, lowest_misses, lowest_le}
+use Rattle.task.proofs.Lowest.{lowest_passes, lowest_le}
 use Rattle.task.proofs.Reach as ways
-use Rattle.walk.specs.Fewest.{Lowest, Fewest, Nearer, LastExit}
+use Rattle.walk.specs.Fewest.{Fewest, Nearer, LastExit}
 use Rattle.walk.specs.Rule.{has_turns, near, distance, leads_nearer, last_exit}
+use Rattle.walk.proofs.LowestNumbers.{lowest_says}
 use Rattle.walk.proofs.TurnSums.{by_some}
-
--- the lowest number that passes a test is the lowest of which holds what the test tells
-pub lowest_says : (p : ℕ → Bool) (P : ℕ → Type 0) (n : ℕ) → ((x : ℕ) → x < n → p x ≡ true → P x) → ((x : ℕ) → P x → p x ≡ true) → lowest p n < n → Lowest P (lowest p n)
-lowest_says p P n is has low = record {
-  is = is (lowest p n) low (lowest_passes p n low);
-  lowest = λ y h q. both_ways (p y) (lowest_misses p n y h) (has y q);
-}
 
 module _ (es : List Edge) (claimed : List ℕ) (end : ℕ) where
   pub near_on : (k v x : ℕ) → x < length es → tail_of es x ≡ v → 0 < get_or claimed x 0 → near es claimed end k (head_of es x) ≡ true → near es claimed end (suc k) v ≡ true
@@ -110,4 +103,4 @@ module _ (es : List Edge) (claimed : List ℕ) (end : ℕ) where
           let s = by_some (λ d. eqb d.tail v) es claimed some in
           let f = fewest v (onward v s.number s.edge (eqb-true (tail_of es s.number) v s.passes) s.held (walkable.reaches s.number s.edge s.held)) in
           let n = some_nearer v off_end f.way.0 f.way.1 f.way.2 f.long in
-          lowest_says test (Nearer es claimed end v) (length es) is_nearer (nearer_leads v) (omega (arith, n.1, lowest_le test (length es) n.0 n.2))
+          lowest_says test (length es) (Nearer es claimed end v) is_nearer (nearer_leads v) (omega (arith, n.1, lowest_le test (length es) n.0 n.2))

@@ -9,14 +9,10 @@ use Rattle.task.proofs.Lowest.{lowest_le, lowest_is, lowest_none}
 use Rattle.walk.specs.Fewest.{Lowest, Spare}
 use Rattle.walk.specs.Rule.{spares, first_beside, beside, taken}
 use Rattle.walk.specs.Walks.{spare, Chosen}
-use Rattle.walk.proofs.ShortestWays.{lowest_says}
+use Rattle.walk.proofs.LowestNumbers.{only_lowest, lowest_says}
 
 abbrev pub SpareOrLast : List Edge → List ℕ → ℕ → ℕ → ℕ → Type 0
 SpareOrLast es left v last x = Lowest (Spare es left v last) x ⊎ ((x ≡ last) × ((y : ℕ) → Spare es left v last y → ⊥))
-
--- there is only one lowest
-pub only_lowest : (P : ℕ → Type 0) (x y : ℕ) → Lowest P x → Lowest P y → x ≡ y
-only_lowest P x y a b = grind (arith, a.is, b.is, a.lowest y, b.lowest x)
 
 module _ (es : List Edge) (left : List ℕ) (v last : ℕ) where
   pub only_one : (x y : ℕ) → SpareOrLast es left v last x → SpareOrLast es left v last y → x ≡ y
@@ -33,7 +29,7 @@ module _ (es : List Edge) (left : List ℕ) (v last : ℕ) where
 
   pub beside_says : SpareOrLast es left v last (beside es left v last)
   beside_says = ⊎_elim
-      (λ (low : x < length es). inl (rw (cond-true (ltb x (length es)) x last (lt-ltb x (length es) low)) (lowest_says test (Spare es left v last) (length es) is_spare spare_passes low)))
+      (λ (low : x < length es). inl (rw (cond-true (ltb x (length es)) x last (lt-ltb x (length es) low)) (lowest_says test (length es) (Spare es left v last) is_spare spare_passes low)))
       (λ (high : length es ≤ x). inr (cond-false (ltb x (length es)) x last (le-ltb x (length es) high), λ y s. omega (arith, s.edge, lowest_le test (length es) y (spare_passes y s))))
       (cases_lt x (length es))
     where
