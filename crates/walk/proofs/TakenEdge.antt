@@ -1,11 +1,10 @@
 -- The edge that the rule takes at a node is the lowest with a turn to spare, or else the last exit.
-use Rattle.std.proofs.Common.{◌≡◌, ℕ, ◌<◌, ◌≤◌, Bool, true, eqb, ltb, ◌⊎◌, List, length, Some, None, Option, unwrap_or, sym, ◌∙◌, inl, inr, ⊎_elim, arith}
+use Rattle.std.proofs.Common.{◌≡◌, ℕ, ◌<◌, ◌≤◌, Bool, true, eqb, ltb, ◌⊎◌, List, length, Some, None, sym, ◌∙◌, inl, inr, ⊎_elim, arith}
 use Rattle.std.proofs.lemmas.Bool.{cases_lt, cases_eq, cond-true, cond-false, lt-ltb, le-ltb, ne_eqb}
 use Rattle.std.proofs.lemmas.Bool.Decides.{nat_tests}
 use Rattle.task.specs.declared.edges.Edge.{Edge}
 use Rattle.task.specs.Graph.{tail_of}
-use Rattle.task.specs.Lowest.{FirstFrom}
-use Rattle.task.proofs.Lowest.{lowest_le, lowest_is, lowest_none}
+use Rattle.task.proofs.Lowest.{lowest_le}
 use Rattle.walk.specs.Fewest.{Lowest, Spare}
 use Rattle.walk.specs.Rule.{spares, first_beside, beside, taken}
 use Rattle.walk.specs.Walks.{spare, Chosen}
@@ -41,11 +40,6 @@ module _ (es : List Edge) (left : List ℕ) (v last : ℕ) where
 
   pub taken_off : (end : ℕ) → (v ≡ end → ⊥) → taken es left v end last ≡ Some (beside es left v last)
   taken_off end off = cond-false (eqb v end) None (Some (beside es left v last)) (ne_eqb v end off)
-
-  -- what the search for it answers
-  pub found_or_last : (end : ℕ) → (v ≡ end → ⊥) → (r : Option ℕ) → FirstFrom (spares es left v last) 0 (length es) r → Some (unwrap_or r last) ≡ taken es left v end last
-  found_or_last end off None miss = grind (arith, nat_tests, lowest_none (spares es left v last) (length es) (λ y h. miss y (omega arith) h))
-  found_or_last end off (Some x) found = grind (arith, nat_tests, lowest_is (spares es left v last) (length es) x found.1 found.2 (λ y h. found.3 y (omega arith) h))
 
 module _ (es : List Edge) (exit : ℕ → ℕ) (left : List ℕ) (v : ℕ) where
   none_spare : (y : ℕ) → y < length es → tail_of es y ≡ v → (Spare es left v (exit v) y → ⊥) → spare exit left v y ≡ 0
