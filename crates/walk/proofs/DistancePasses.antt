@@ -1,6 +1,5 @@
 -- Passes over the edges that lower entries until nothing changes come to the distances.
-use Rattle.std.proofs.Common.{◌^◌, ◌≡◌, ℕ, zero, suc, ◌+◌, ◌<◌, ◌≤◌, Bool, true, false, cond, eqb, List, [], ◌∷◌, length, get_or, set, replicate, refl, ap, ◌∙◌, add-one, arith, length-set}
-use Rattle.std.specs.List.{All}
+use Rattle.std.proofs.Common.{All, ◌^◌, ◌≡◌, ℕ, zero, suc, ◌+◌, ◌<◌, ◌≤◌, Bool, true, false, cond, eqb, List, [], ◌∷◌, length, get_or, set, replicate, refl, ap, ◌∙◌, add-one, arith, length-set}
 use Rattle.std.proofs.lemmas.List.Elements.{All-head, All-tail}
 use Rattle.std.proofs.lemmas.List.{get_or-replicate, length-replicate}
 use Rattle.std.proofs.lemmas.List.Sums.{sum_by-set}
@@ -12,7 +11,7 @@ use Rattle.walk.specs.Rule.{near, distance}
 use Rattle.walk.specs.Tables.{DistancesTabled, Relaxed, HoldsBelow, DistancePass}
 use Rattle.walk.proofs.ExitTables.{set_at}
 use Rattle.walk.proofs.LowestNumbers.{from_all}
-use Rattle.walk.proofs.ShortestWays.{near_on, near_way}
+use Rattle.walk.proofs.ShortestWays.{HasTurn, near_on, near_way}
 
 -- ---- one pass, from the last edge to the first
 
@@ -79,12 +78,9 @@ module _ (es : List Edge) (ts : List ℕ) (end : ℕ) where
 
   -- when nothing shrinks any more, the entries are the distances
   module _ (far : List ℕ) (r : Nearing es ts end far) (done : (x : ℕ) → x < length es → Relaxed es ts far x) where
-    abbrev HasTurn : ℕ → Type 0
-    HasTurn x = 0 < get_or ts x 0
-
-    not_higher : (xs : List ℕ) (v : ℕ) → Path es v end xs → All HasTurn xs → get_or far v 0 ≤ length xs
+    not_higher : (xs : List ℕ) (v : ℕ) → Path es v end xs → All (HasTurn ts) xs → get_or far v 0 ≤ length xs
     not_higher [] v e all = rw e (omega (arith, r.at_end))
-    not_higher (x ∷ xs) v p all = rw (← p.1) (omega (arith, done x p.0 (All-head HasTurn x xs all), not_higher xs (head_of es x) p.2 (All-tail HasTurn x xs all)))
+    not_higher (x ∷ xs) v p all = rw (← p.1) (omega (arith, done x p.0 (All-head (HasTurn ts) x xs all), not_higher xs (head_of es x) p.2 (All-tail (HasTurn ts) x xs all)))
 
     entry_is : (v : ℕ) → v < 32 → get_or far v 0 ≡ distance es ts end v
     unfolding distance

@@ -80,14 +80,14 @@ module _ {es : List Edge} {start end : ℕ} {claimed : List ℕ} (walkable : Wal
           (omega (arith, inv.kept v h, arrives, rw there at (inv.balanced u)))
 
       none_left : sum left ≡ 0
-      none_left = omega (arith, sum_by-le (λ t. t) 0 left (All-from_get_or (λ t. t ≤ 0) left 0 gone))
-        where
-          gone : (x : ℕ) → x < length left → get_or left x 0 ≤ 0
-          gone x low =
-              let v = tail_of es x in
-              let leaves = by_at (λ d. eqb d.tail v) es left x (omega (arith, inv.sized)) (eq-eqb v v refl) in
-              let none : leaving es left v ≡ 0 = grind (arith, none_below (suc (distance es claimed end v)) v) in
-              omega arith
+      none_left = omega (
+        arith,
+        sum_by-le (λ t. t) 0 left (All-from_get_or (λ t. t ≤ 0) left 0 (λ x low.
+            let v = tail_of es x in
+            let leaves = by_at (λ d. eqb d.tail v) es left x (omega (arith, inv.sized)) (eq-eqb v v refl) in
+            let none : leaving es left v ≡ 0 = grind (arith, none_below (suc (distance es claimed end v)) v) in
+            omega arith)),
+      )
 
     pub over : (at ≡ end) ↔ (sum left ≡ 0)
     over = (none_left, λ none. ⊎_elim (λ there. there) (λ off. absurd (omega (arith, some_left off))) (cases_eq at end))

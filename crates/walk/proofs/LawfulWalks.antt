@@ -15,15 +15,11 @@ use Rattle.walk.proofs.LawfulSteps.{Invariant, nearer, begins, claimed_too, can_
 -- ---- of any choice
 
 module _ (es : List Edge) (choose : Chooser) where
-  then_take : (o : Option ℕ) (k : ℕ) (f g : ℕ → List ℕ) → ((x : ℕ) → f x ≡ take k (g x)) → then_on o f ≡ take (suc k) (then_on o g)
-  then_take None k f g same = refl
-  then_take (Some x) k f g same = ap (λ xs. x ∷ xs) (same x)
-
   -- fewer steps begin the walk
   walk_take : (k n : ℕ) (left : List ℕ) (at : ℕ) → k ≤ n → walk es choose k left at ≡ take k (walk es choose n left at)
   walk_take zero n left at h = refl
   walk_take (suc k) zero left at h = absurd (not-suc-le-zero h)
-  walk_take (suc k) (suc n) left at h = then_take (choose left at) k _ _ (λ x. walk_take k n (one_less left x) (head_of es x) (le_of_suc-le-suc h))
+  walk_take (suc k) (suc n) left at h = let ih = λ (x : ℕ). walk_take k n (one_less left x) (head_of es x) (le_of_suc-le-suc h) in grind (arith, ih)
 
   then_follows : (o : Option ℕ) (left : List ℕ) (at : ℕ) (rest : ℕ → List ℕ) → choose left at ≡ o →
       ((x : ℕ) → Follows es choose (one_less left x) (head_of es x) (rest x)) → Follows es choose left at (then_on o rest)
