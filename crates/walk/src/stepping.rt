@@ -22,22 +22,16 @@ fn first_spare(left: Flow<'_>, at: Node, last: usize) -> Option<usize>
     (0..left.edges.len()).find(|x| has_spare(left, at, last, *x))
 }
 
-// That edge; if there is none, the last exit. None at the end.
-fn choose(left: Flow<'_>, last: usize, at: Node, end: Node) -> Option<usize>
-    ensures { result ≡ taken left.entry.edges.now left.entry.turns.now at end last }
-{
-    if at == end {
-        return None;
-    }
-    Some(first_spare(left, at, last).unwrap_or(last))
-}
-
-// The edge by the table of last exits.
+// That edge; if there is none, the last exit by the table. None at the end.
 fn by_table(left: Flow<'_>, exits: &[usize; NODES], at: Node, end: Node) -> Option<usize>
     ensures answer { result ≡ taken left.entry.edges.now left.entry.turns.now at end (slice_index exits.now at) }
     ensures rule { (claimed : List ℕ) → ExitsTabled left.entry.edges.now claimed end exits.now → result ≡ next left.entry.edges.now claimed end left.entry.turns.now at }
 {
-    choose(left, exits[at.index()], at, end)
+    if at == end {
+        return None;
+    }
+    let last = exits[at.index()];
+    Some(first_spare(left, at, last).unwrap_or(last))
 }
 
 /// The edge that the rule takes at a node, by the table of last exits and the turns left; none at the end.
