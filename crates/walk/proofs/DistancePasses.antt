@@ -1,7 +1,6 @@
 -- Passes over the edges that lower entries until nothing changes come to the distances.
-use Rattle.std.proofs.Common.{All, ◌^◌, ◌≡◌, ℕ, zero, suc, ◌+◌, ◌<◌, ◌≤◌, Bool, true, false, cond, eqb, List, [], ◌∷◌, length, get_or, set, replicate, refl, ap, ◌∙◌, add-one, arith, length-set}
+use Rattle.std.proofs.Common.{All, ◌^◌, ◌≡◌, ℕ, zero, suc, ◌+◌, ◌<◌, ◌≤◌, Bool, true, false, cond, eqb, List, [], ◌∷◌, length, get_or, set, refl, ap, ◌∙◌, add-one, arith, length-set}
 use Rattle.std.proofs.lemmas.List.Elements.{All-head, All-tail}
-use Rattle.std.proofs.lemmas.List.{get_or-replicate, length-replicate}
 use Rattle.std.proofs.lemmas.List.Sums.{sum_by-set}
 use Rattle.std.proofs.lemmas.Bool.{both_ways, false_from_ne_true}
 use Rattle.std.proofs.lemmas.Bool.Decides.{nat_tests}
@@ -47,25 +46,24 @@ pub record Nearing (es : List Edge) (ts : List ℕ) (end : ℕ) (far : List ℕ)
   pub at_end : get_or far end 0 ≡ 0
 
 module _ (es : List Edge) (ts : List ℕ) (end : ℕ) where
-  module _ (i : ℕ) (is : i ≡ end) (low : i < 32) where
-    first_at : (v : ℕ) → v < 32 → get_or (set (replicate 32 (length es + 2)) i 0) v 0 ≡ cond (eqb v i) 0 (length es + 2)
-    first_at v h = set_at (replicate 32 (length es + 2)) i v 0 (omega (arith, length-replicate 32 (length es + 2))) ∙ ap (cond (eqb v i) 0) (get_or-replicate 32 v (length es + 2) 0 h)
+  -- at first every other node is as far as can be
+  module _ (far : List ℕ) (long : length far ≡ 32) (all : (v : ℕ) → v < 32 → get_or far v 0 ≡ length es + 2) (i : ℕ) (is : i ≡ end) (low : i < 32) where
+    first_at : (v : ℕ) → v < 32 → get_or (set far i 0) v 0 ≡ cond (eqb v i) 0 (length es + 2)
+    first_at v h = set_at far i v 0 (omega arith) ∙ ap (cond (eqb v i) 0) (all v h)
 
     first_holds : (v entry : ℕ) → entry ≡ cond (eqb v i) 0 (length es + 2) → entry < length es + 2 → near es ts end entry v ≡ true
     first_holds v zero e few = grind (arith, nat_tests)
     first_holds v (suc entry) e few = absurd (grind (arith, nat_tests))
 
-    pub only_end : Nearing es ts end (set (replicate 32 (length es + 2)) i 0)
-    only_end =
-        let long : length (set (replicate 32 (length es + 2)) i 0) ≡ 32 = length-set (replicate 32 (length es + 2)) i 0 ∙ length-replicate 32 (length es + 2) in
-        record {
-          sized = long;
-          most = λ v h. grind (arith, nat_tests, first_at v h);
-          holds = λ v h few. first_holds v _ (first_at v (omega (arith, h, long))) few;
-          at_end = rw (← is) (grind (arith, nat_tests, first_at i low));
-        }
+    pub only_end : Nearing es ts end (set far i 0)
+    only_end = record {
+      sized = length-set far i 0 ∙ long;
+      most = λ v h. grind (arith, nat_tests, first_at v h);
+      holds = λ v h few. first_holds v _ (first_at v (omega (arith, h, length-set far i 0))) few;
+      at_end = rw (← is) (grind (arith, nat_tests, first_at i low));
+    }
 
-    pub only_end_small : length es < 2 ^ 62 → (v : ℕ) → v < 32 → get_or (set (replicate 32 (length es + 2)) i 0) v 0 < 2 ^ 63
+    pub only_end_small : length es < 2 ^ 62 → (v : ℕ) → v < 32 → get_or (set far i 0) v 0 < 2 ^ 63
     only_end_small few v h = omega (arith, only_end.most v h)
 
   pub nearing_on : (before after : List ℕ) (settled : Bool) → Nearing es ts end before → DistancePass es ts before after settled 0 → Nearing es ts end after
