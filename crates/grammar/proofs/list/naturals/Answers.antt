@@ -1,7 +1,7 @@
 use Rattle.std.proofs.Common.{◌≡◌, suc, ◌+◌, ◌-◌, ◌<◌, length, take, sym, ap, ◌∙◌, arith}
 use Rattle.std.proofs.lemmas.List.{take_more_set}
 use Rattle.grammar.specs.Reading.{naturals_front}
-use Rattle.grammar.proofs.Listing.{joined, naturals_more}
+use Rattle.grammar.proofs.OneNumberMore.{joined, naturals_more}
 use Rattle.grammar.proofs.list.naturals.Goals as goal
 
 pub loop-slot-preserved : goal.loop-slot-preserved
