@@ -1,5 +1,5 @@
 -- What was read and what is still to read make up the answer: one number more is read.
-use Rattle.std.proofs.Common.{◌≡◌, ℕ, suc, ◌≤◌, List, [], ◌∷◌, ◌++◌, length, ℤ, Some, None, Option, sym, refl, ap, ◌∙◌, append_assoc, arith}
+use Rattle.std.proofs.Common.{◌≡◌, ℕ, zero, suc, ◌≤◌, List, [], ◌∷◌, ◌++◌, length, ℤ, Some, None, Option, sym, refl, ap, ◌∙◌, append_assoc, arith}
 use Rattle.std.specs.Option.{option_and_then, option_map}
 use Rattle.grammar.specs.Numbers.{natural_after, integer_after}
 use Rattle.grammar.specs.Reading.{naturals_front, integers_in}
@@ -27,3 +27,9 @@ pub integers_more : (zs : List ℤ) (room : ℕ) (text rest : List ℕ) (z : ℤ
     behind zs (integers_in (suc room) text) ≡ behind (zs ++ (z ∷ [])) (integers_in room rest)
 integers_more zs room [] rest z h e = absurd (omega arith)
 integers_more zs room (c ∷ cs) rest z h e = rw (← e) (behind_one zs z (integers_in room rest))
+
+-- where no number can be read
+pub integers_none : (room : ℕ) (text : List ℕ) → 1 ≤ room → 1 ≤ length text → None ≡ integer_after text → integers_in room text ≡ None
+integers_none room [] some long e = absurd (omega arith)
+integers_none zero (c ∷ cs) some long e = absurd (omega arith)
+integers_none (suc room) (c ∷ cs) some long e = rw (← e) refl

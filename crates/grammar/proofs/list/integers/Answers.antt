@@ -3,7 +3,7 @@ use Rattle.std.proofs.lemmas.Bool.Decides.{nat_tests}
 use Rattle.std.proofs.lemmas.Int.{to_z-of_z}
 use Rattle.arrayvec.specs.ArrayVec.{array_vec_len}
 use Rattle.grammar.specs.Reading.{integers_in}
-use Rattle.grammar.proofs.OneNumberMore.{behind, integers_more}
+use Rattle.grammar.proofs.OneNumberMore.{behind, integers_more, integers_none}
 use Rattle.grammar.proofs.list.integers.Goals as goal
 
 pub loop-rest-preserved : goal.loop-rest-preserved
@@ -19,3 +19,6 @@ loop-rest-preserved c =
           ∙ ap (λ k. behind zs (integers_in k rest)) (sym down)
           ∙ c.loop-rest.invariant.1,
     )
+
+pub returns-in_err-number : goal.returns-in_err-number
+returns-in_err-number c = grind (arith, nat_tests, integers_none)
