@@ -10,8 +10,7 @@ use Rattle.std.proofs.lemmas.Bool.Decides.{nat_tests}
 use Rattle.grammar.specs.Numbers.{digit, with_digit, digits_on, natural_front, positive, negative, sized, integer_front, after}
 use Rattle.grammar.specs.Spelling.{Natural, Integer}
 use Rattle.grammar.proofs.Chains.{and_then_holds, map_holds, or_holds, test_holds, some_holds}
-use Rattle.grammar.proofs.Prefixes.{mark_before, no_mark}
-use Rattle.grammar.proofs.Readers.{Ends, Found, Reads}
+use Rattle.grammar.proofs.Readers.{mark_before, no_mark, Ends, Found, Reads}
 
 -- ---- one digit
 
@@ -29,22 +28,18 @@ with_digit_is n h small = grind (arith, nat_tests)
 with_digit_sound : (n c m : ℕ) → with_digit n c ≡ Some m → Natural m × (decimal m ≡ decimal n ++ (c ∷ []))
 with_digit_sound n c m e =
     let parts : (m < 4294967296) × (10 ≤ m) × (m / 10 ≡ n) × (48 + m % 10 ≡ c) = grind (arith, nat_tests) in
-    (parts.0, decimal_step m parts.1 (omega arith) ∙ ap (λ k. decimal k ++ ((48 + m % 10) ∷ [])) parts.2 ∙ ap (λ k. decimal n ++ (k ∷ [])) parts.3)
+    let step = decimal_step m parts.1 (omega arith) in (parts.0, cc)
 
 -- ---- natural numbers
 
-digit_more : (n : ℕ) (ds rest : List ℕ) → 10 ≤ n → n < 4294967296 →
-    ((more : List ℕ) → natural_front (ds ++ more) ≡ digits_on (n / 10) more) → natural_front ((ds ++ ((48 + n % 10) ∷ [])) ++ rest) ≡ digits_on n rest
-digit_more n ds rest h small front =
-    ap natural_front (append_assoc ds ((48 + n % 10) ∷ []) rest) ∙ front ((48 + n % 10) ∷ rest)
-    ∙ cond-false (eqb (48 + n % 10) 32) _ _ (ne_eqb (48 + n % 10) 32 (λ e. omega arith))
-    ∙ ap (option_and_then (λ m. digits_on m rest)) (with_digit_is n h small)
+digit_more : (n : ℕ) (rest : List ℕ) → 10 ≤ n → n < 4294967296 → digits_on (n / 10) ((48 + n % 10) ∷ rest) ≡ digits_on n rest
+digit_more n rest h small = cond-false (eqb (48 + n % 10) 32) _ _ (ne_eqb _ 32 (λ e. omega arith)) ∙ ap (option_and_then _) (with_digit_is n h small)
 
 front_decimal : (n : ℕ) → n < 4294967296 → (rest : List ℕ) → natural_front (decimal n ++ rest) ≡ digits_on n rest
 front_decimal n small =
     decimal_by_steps (λ n ds. n < 4294967296 → (rest : List ℕ) → natural_front (ds ++ rest) ≡ digits_on n rest)
     (λ n h _ rest. ap (option_and_then (λ m. digits_on m rest)) (digit_is n h))
-    (λ n ds h front small rest. digit_more n ds rest h small (front (omega arith)))
+    (λ n ds h front small rest. rw append_assoc (front (omega arith) ((48 + n % 10) ∷ rest) ∙ digit_more n rest h small))
     n (omega arith) small
 
 digits_ended : (n : ℕ) (rest : List ℕ) → Ends rest → digits_on n rest ≡ Some (n, rest)
@@ -55,14 +50,14 @@ digits_sound : (n : ℕ) (text : List ℕ) → Natural n → IfSome (digits_on n
 digits_sound n [] small = (refl, small, tt)
 digits_sound n (c ∷ cs) small =
     cond_both (eqb c 32) _ _ (λ o. IfSome o (Found decimal Natural (decimal n ++ (c ∷ cs)))) (λ e. (refl, small, eqb-true c 32 e)) (λ no.
-      and_then_holds _ (with_digit n c) _ (some_holds (with_digit n c) (with_digit_sound n c)) (λ m more.
-        IfSome_then (digits_on m cs) (digits_sound m cs more.0) (λ p s. (s.0 ∙ ap (λ ds. ds ++ cs) more.1 ∙ append_assoc (decimal n) (c ∷ []) cs, s.1, s.2))))
+    and_then_holds _ (with_digit n c) _ (some_holds (with_digit n c) (with_digit_sound n c)) (λ m more.
+    IfSome_then (digits_on m cs) (digits_sound m cs more.0) (λ p s. (cc (append_assoc (decimal n) (c ∷ []) cs), s.1, s.2))))
 
 natural_sound : (text : List ℕ) → IfSome (natural_front text) (Found decimal Natural text)
 natural_sound [] = tt
 natural_sound (c ∷ cs) =
     and_then_holds _ (digit c) _ (some_holds (digit c) (digit_sound c)) (λ n first.
-      IfSome_then (digits_on n cs) (digits_sound n cs (omega arith)) (λ p s. (s.0 ∙ ap (λ ds. ds ++ cs) first.1, s.1, s.2)))
+    IfSome_then (digits_on n cs) (digits_sound n cs (omega arith)) (λ p s. (cc, s.1, s.2)))
 
 pub reads_natural : Reads natural_front decimal Natural
 reads_natural = record { sound = natural_sound; complete = λ n rest small ends. front_decimal n small rest ∙ digits_ended n rest ends }
@@ -82,8 +77,7 @@ sized_sound : (sign : ℕ → Option ℤ) (mark : List ℕ) → ((n : ℕ) → I
     (text : List ℕ) → IfSome (sized sign text) (Found signed_decimal Integer (mark ++ text))
 sized_sound sign mark signs text =
     and_then_holds _ (natural_front text) _ (natural_sound text) (λ q found.
-      map_holds _ (sign q.0) _ (signs q.0) (λ z s.
-        (ap (λ ds. ds ++ q.1) s.0 ∙ append_assoc mark (decimal q.0) q.1 ∙ ap (λ ts. mark ++ ts) found.0, s.1, found.2)))
+    map_holds _ (sign q.0) _ (signs q.0) (λ z s. (cc (append_assoc mark (decimal q.0) q.1), s.1, found.2)))
 
 integer_sound : (text : List ℕ) → IfSome (integer_front text) (Found signed_decimal Integer text)
 integer_sound text =

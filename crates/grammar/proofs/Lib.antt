@@ -1,5 +1,4 @@
 pub mod Chains
-pub mod Prefixes
 pub mod Readers
 pub mod Decimals
 pub mod OneNumberMore

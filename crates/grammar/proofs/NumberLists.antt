@@ -26,11 +26,11 @@ pub naturals_sound : (k : ℕ) (text : List ℕ) → IfSome (naturals_front k te
 naturals_sound zero text = (refl, All-nil Natural, refl)
 naturals_sound (suc k) text =
     and_then_holds _ (natural_after text) _ (one_natural.sound text) (λ n s.
-      map_holds _ (naturals_front k n.1) _ (naturals_sound k n.1) (λ q t. (
-        ap (λ ts. 32 ∷ ts) (append_assoc (decimal n.0) (naturals q.0) q.1) ∙ ap (λ ts. 32 ∷ (decimal n.0 ++ ts)) t.0 ∙ s.0,
-        All-cons Natural n.0 q.0 s.1 t.1,
-        ap suc t.2,
-      )))
+    map_holds _ (naturals_front k n.1) _ (naturals_sound k n.1) (λ q t. (
+      cc (append_assoc (decimal n.0) (naturals q.0) q.1),
+      All-cons Natural n.0 q.0 s.1 t.1,
+      ap suc t.2,
+    )))
 
 pub ends_naturals : (ns rest : List ℕ) → Ends rest → Ends (naturals ns ++ rest)
 ends_naturals [] rest ends = ends
@@ -53,8 +53,8 @@ integers_sound room [] = (refl, All-nil Integer, omega arith)
 integers_sound zero (c ∷ cs) = tt
 integers_sound (suc room) (c ∷ cs) =
     and_then_holds _ (integer_after (c ∷ cs)) _ (one_integer.sound (c ∷ cs)) (λ z s.
-      map_holds _ (integers_in room z.1) _ (integers_sound room z.1) (λ zs t.
-        (ap (λ ts. 32 ∷ (signed_decimal z.0 ++ ts)) t.0 ∙ s.0, All-cons Integer z.0 zs s.1 t.1, omega (arith, t.2))))
+    map_holds _ (integers_in room z.1) _ (integers_sound room z.1) (λ zs t.
+    (cc, All-cons Integer z.0 zs s.1 t.1, omega (arith, t.2))))
 
 pub ends_integers : (zs : List ℤ) → Ends (integers zs)
 ends_integers [] = tt

@@ -11,7 +11,7 @@ use Rattle.grammar.specs.Reading.{naturals_front, integers_in, edge_of, edge_in,
 use Rattle.history.specs.Calls.{Request, edge, row, seal, claim, void, step, withdraw, told}
 use Rattle.grammar.specs.Spelling.{naturals, integers, Natural, Integer, Within, Spelling, Spells}
 use Rattle.grammar.proofs.Chains.{and_then_holds, map_holds, or_holds, test_holds}
-use Rattle.grammar.proofs.Prefixes.{mark_before}
+use Rattle.grammar.proofs.Readers.{mark_before}
 use Rattle.grammar.proofs.NumberLists.{FoundIntegers, one_natural, naturals_sound, naturals_complete, integers_sound, integers_complete, ends_naturals, ends_integers}
 
 -- a request within the limits, and its line
@@ -26,14 +26,13 @@ five ns h = text_from_reads ns (get_or ns 0 0 ∷ get_or ns 1 0 ∷ get_or ns 2 
 edge_sound : (text : List ℕ) → IfSome (edge_in text) (Right (codes "edge" ++ text))
 edge_sound text =
     and_then_holds edge_of (naturals_front 5 text) _ (naturals_sound 5 text) (λ p found. test_holds (eqb (length p.1) 0) _ _ (λ e.
-      let whole : naturals p.0 ≡ text =
-      sym (append-nil (naturals p.0)) ∙ ap (λ rest. naturals p.0 ++ rest) (sym (nil_from_length p.1 (eqb-true (length p.1) 0 e))) ∙ found.0 in
-      (rw (five p.0 found.2) at found.1, ap (λ ts. codes "edge" ++ ts) (sym whole ∙ ap naturals (five p.0 found.2)))))
+    let all = five p.0 found.2 in let none = nil_from_length p.1 (eqb-true (length p.1) 0 e) in
+    (rw all at found.1, cc (ap naturals all, append-nil (naturals p.0)))))
 
 row_right : (text : List ℕ) (zs : List ℤ) → FoundIntegers 512 text zs → IfSome (row_of zs) (Right (codes "row" ++ text))
 row_right text [] found = tt
 row_right text (relation ∷ []) found = tt
-row_right text (relation ∷ k ∷ zs) found = ((found.1, omega (arith, found.2)), ap (λ ts. codes "row" ++ ts) (sym found.0))
+row_right text (relation ∷ k ∷ zs) found = ((found.1, omega (arith, found.2)), cc)
 
 row_sound : (text : List ℕ) → IfSome (row_in text) (Right (codes "row" ++ text))
 row_sound text = and_then_holds row_of (integers_in 512 text) _ (integers_sound 512 text) (row_right text)
@@ -41,20 +40,14 @@ row_sound text = and_then_holds row_of (integers_in 512 text) _ (integers_sound 
 claim_sound : (text : List ℕ) → IfSome (claim_in text) (Right (codes "claim" ++ text))
 claim_sound text =
     and_then_holds claim_of (natural_after text) _ (one_natural.sound text) (λ n count. test_holds (leb n.0 511) _ _ (λ few.
-      and_then_holds _ (naturals_front n.0 n.1) _ (naturals_sound n.0 n.1) (λ p turns.
-        map_holds (claim p.0) (integers_in (511 - n.0) p.1) _ (integers_sound (511 - n.0) p.1) (λ tree backing.
-          let whole : naturals (length p.0 ∷ p.0) ++ integers tree ≡ text =
-          ap (λ k. (32 ∷ (decimal k ++ naturals p.0)) ++ integers tree) turns.2
-          ∙ ap (λ ts. 32 ∷ ts) (append_assoc (decimal n.0) (naturals p.0) (integers tree))
-          ∙ ap (λ ts. 32 ∷ (decimal n.0 ++ (naturals p.0 ++ ts))) backing.0
-          ∙ ap (λ ts. 32 ∷ (decimal n.0 ++ ts)) turns.0
-          ∙ count.0 in
-          let less = leb-true n.0 511 few in
-          ((turns.1, backing.1, omega (arith, turns.2, backing.2)), ap (λ ts. codes "claim" ++ ts) (sym whole))))))
+    and_then_holds _ (naturals_front n.0 n.1) _ (naturals_sound n.0 n.1) (λ p turns.
+    map_holds (claim p.0) (integers_in (511 - n.0) p.1) _ (integers_sound (511 - n.0) p.1) (λ tree backing.
+    let less = leb-true n.0 511 few in
+    ((turns.1, backing.1, omega (arith, turns.2, backing.2)), cc (append_assoc (decimal n.0) (naturals p.0) (integers tree)))))))
 
 void_sound : (text : List ℕ) → IfSome (void_in text) (Right (codes "void" ++ text))
 void_sound text =
-    map_holds void (integers_in 512 text) _ (integers_sound 512 text) (λ tree found. ((found.1, found.2), ap (λ ts. codes "void" ++ ts) (sym found.0)))
+    map_holds void (integers_in 512 text) _ (integers_sound 512 text) (λ tree found. ((found.1, found.2), cc))
 
 -- a word with a reader for what follows it, and what is read of the lines that do not begin with it
 word_sound : (word line : List ℕ) (read : List ℕ → Option Request) (other : Option Request) →
@@ -64,7 +57,7 @@ word_sound word line read other own next =
 
 alone_sound : (word : List ℕ) (q : Request) → Right word q → (text : List ℕ) → IfSome (alone q text) (Right (word ++ text))
 alone_sound word q right text = test_holds (eqb (length text) 0) (Some q) _ (λ e.
-  rw (nil_from_length text (eqb-true (length text) 0 e)) (rw append-nil right))
+    rw (nil_from_length text (eqb-true (length text) 0 e)) (rw append-nil right))
 
 bare_sound : (line : List ℕ) → IfSome (bare_call line) (Right line)
 bare_sound line =
@@ -110,7 +103,7 @@ by_word_complete told line small is = ap by_word is
 
 line_sound : (line : List ℕ) → IfSome (request_in line) (λ q. Spells q line)
 line_sound line = test_holds (leb (length line) 4095) (by_word line) _ (λ e.
-  IfSome_then (by_word line) (by_word_sound line) (λ q right. (right.0, right.1, leb-true (length line) 4095 e)))
+    IfSome_then (by_word line) (by_word_sound line) (λ q right. (right.0, right.1, leb-true (length line) 4095 e)))
 
 pub request_sound : (line : List ℕ) (q : Request) → request_in line ≡ Some q → Spells q line
 request_sound line q h = MatchOption-at_some (Unit {0}) (λ q. Spells q line) q h (line_sound line)
