@@ -18,22 +18,18 @@ digit_is : (n : ℕ) → n < 10 → digit (48 + n) ≡ Some n
 digit_is n h = grind (arith, nat_tests)
 
 digit_sound : (c n : ℕ) → digit c ≡ Some n → (n < 10) × (decimal n ≡ c ∷ [])
-digit_sound c n e =
-    let small : (n < 10) × (48 + n ≡ c) = grind (arith, nat_tests) in
-    (small.0, decimal_digit n small.0 ∙ ap (λ k. k ∷ []) small.1)
+digit_sound c n e = grind (arith, nat_tests, decimal_digit)
 
 with_digit_is : (n : ℕ) → 10 ≤ n → n < 4294967296 → with_digit (n / 10) (48 + n % 10) ≡ Some n
 with_digit_is n h small = grind (arith, nat_tests)
 
 with_digit_sound : (n c m : ℕ) → with_digit n c ≡ Some m → Natural m × (decimal m ≡ decimal n ++ (c ∷ []))
-with_digit_sound n c m e =
-    let parts : (m < 4294967296) × (10 ≤ m) × (m / 10 ≡ n) × (48 + m % 10 ≡ c) = grind (arith, nat_tests) in
-    let step = decimal_step m parts.1 (omega arith) in (parts.0, cc)
+with_digit_sound n c m e = grind (arith, nat_tests, decimal_step)
 
 -- ---- natural numbers
 
 digit_more : (n : ℕ) (rest : List ℕ) → 10 ≤ n → n < 4294967296 → digits_on (n / 10) ((48 + n % 10) ∷ rest) ≡ digits_on n rest
-digit_more n rest h small = cond-false (eqb (48 + n % 10) 32) _ _ (ne_eqb _ 32 (λ e. omega arith)) ∙ ap (option_and_then _) (with_digit_is n h small)
+digit_more n rest h small = grind (arith, nat_tests, with_digit_is)
 
 front_decimal : (n : ℕ) → n < 4294967296 → (rest : List ℕ) → natural_front (decimal n ++ rest) ≡ digits_on n rest
 front_decimal n small =
@@ -90,12 +86,10 @@ integer_complete (pos n) rest small ends =
     let less : n < 2147483648 = omega (arith, ints, small.1) in
     let size = reads_natural.complete n rest (omega arith) ends in
     let unsigned = no_mark (45 ∷ []) (decimal n ++ rest) (λ digits e. none-some (n, rest) (ap natural_front e ∙ size)) in
-    ap (λ o. option_map_or (sized negative) o (sized positive (decimal n ++ rest))) (sym unsigned)
-    ∙ ap (option_and_then _) size ∙ ap (option_map _) (cond-true (ltb n 2147483648) _ _ (lt-ltb n 2147483648 less))
+    rw (← unsigned, size, lt-ltb n 2147483648 less)
 integer_complete (negsuc k) rest small ends =
     let less : k < 2147483648 = omega (arith, ints, small.0) in
-    ap (option_and_then _) (reads_natural.complete (suc k) rest (omega arith) ends)
-    ∙ ap (option_map _) (cond-true (ltb k 2147483648) _ _ (lt-ltb k 2147483648 less))
+    rw (reads_natural.complete (suc k) rest (omega arith) ends, lt-ltb k 2147483648 less)
 
 pub reads_integer : Reads integer_front signed_decimal Integer
 reads_integer = record { sound = integer_sound; complete = integer_complete }

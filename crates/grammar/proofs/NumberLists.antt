@@ -39,9 +39,11 @@ ends_naturals (n ∷ ns) rest ends = refl
 pub naturals_complete : (ns rest : List ℕ) → All Natural ns → Ends rest → naturals_front (length ns) (naturals ns ++ rest) ≡ Some (ns, rest)
 naturals_complete [] rest small ends = refl
 naturals_complete (n ∷ ns) rest small ends =
-    ap (λ ts. naturals_front (suc (length ns)) (32 ∷ ts)) (append_assoc (decimal n) (naturals ns) rest)
-    ∙ ap (option_and_then _) (one_natural.complete n (naturals ns ++ rest) (All-head Natural n ns small) (ends_naturals ns rest ends))
-    ∙ ap (option_map _) (naturals_complete ns rest (All-tail Natural n ns small) ends)
+    rw (
+      append_assoc (decimal n) (naturals ns) rest,
+      one_natural.complete n (naturals ns ++ rest) (All-head Natural n ns small) (ends_naturals ns rest ends),
+      naturals_complete ns rest (All-tail Natural n ns small) ends
+    )
 
 -- ---- integers up to the end
 
@@ -64,5 +66,4 @@ pub integers_complete : (room : ℕ) (zs : List ℤ) → All Integer zs → leng
 integers_complete room [] small long = refl
 integers_complete zero (z ∷ zs) small long = absurd (omega arith)
 integers_complete (suc room) (z ∷ zs) small long =
-    ap (option_and_then _) (one_integer.complete z (integers zs) (All-head Integer z zs small) (ends_integers zs))
-    ∙ ap (option_map _) (integers_complete room zs (All-tail Integer z zs small) (omega arith))
+    rw (one_integer.complete z (integers zs) (All-head Integer z zs small) (ends_integers zs), integers_complete room zs (All-tail Integer z zs small) (omega arith))

@@ -27,7 +27,7 @@ edge_sound : (text : List ℕ) → IfSome (edge_in text) (Right (codes "edge" ++
 edge_sound text =
     and_then_holds edge_of (naturals_front 5 text) _ (naturals_sound 5 text) (λ p found. test_holds (eqb (length p.1) 0) _ _ (λ e.
     let all = five p.0 found.2 in let none = nil_from_length p.1 (eqb-true (length p.1) 0 e) in
-    (rw all at found.1, cc (ap naturals all, append-nil (naturals p.0)))))
+    (rw all at found.1, cc (append-nil (naturals p.0)))))
 
 row_right : (text : List ℕ) (zs : List ℤ) → FoundIntegers 512 text zs → IfSome (row_of zs) (Right (codes "row" ++ text))
 row_right text [] found = tt
@@ -78,23 +78,23 @@ by_word_sound line =
 claim_complete : (turns : List ℕ) (tree : List ℤ) → All Natural turns → All Integer tree → 1 + length turns + length tree ≤ 512 →
     claim_in (naturals (length turns ∷ turns) ++ integers tree) ≡ Some (claim turns tree)
 claim_complete turns tree small small' few =
-    ap (λ ts. claim_in (32 ∷ ts)) (append_assoc (decimal (length turns)) (naturals turns) (integers tree))
-    ∙ ap (option_and_then claim_of)
-    (one_natural.complete (length turns) (naturals turns ++ integers tree) (omega arith) (ends_naturals turns (integers tree) (ends_integers tree)))
-    ∙ cond-true (leb (length turns) 511) _ _ (le-leb (length turns) 511 (omega arith))
-    ∙ ap (option_and_then _) (naturals_complete turns (integers tree) small (ends_integers tree))
-    ∙ ap (option_map (claim turns)) (integers_complete (511 - length turns) tree small' (omega arith))
+    rw (
+      append_assoc (decimal (length turns)) (naturals turns) (integers tree),
+      one_natural.complete (length turns) (naturals turns ++ integers tree) (omega arith) (ends_naturals turns (integers tree) (ends_integers tree)),
+      le-leb (length turns) 511 (omega arith),
+      naturals_complete turns (integers tree) small (ends_integers tree),
+      integers_complete (511 - length turns) tree small' (omega arith)
+    )
 
 -- a spelling of a request, one form after the other
 by_word_complete : (q : Request) (line : List ℕ) → Within q → Spelling q line → by_word line ≡ Some q
 by_word_complete (edge a b c d e) line small is =
-    ap by_word is ∙ ap edge_in (sym (append-nil (naturals (a ∷ b ∷ c ∷ d ∷ e ∷ []))))
-    ∙ ap (option_and_then edge_of) (naturals_complete (a ∷ b ∷ c ∷ d ∷ e ∷ []) [] small tt)
-by_word_complete (row relation k zs) line small is =
-    ap by_word is ∙ ap (option_and_then row_of) (integers_complete 512 (relation ∷ k ∷ zs) small.0 (omega (arith, small.1)))
+    let ns = a ∷ b ∷ c ∷ d ∷ e ∷ [] in
+    ap by_word is ∙ ap edge_in (sym (append-nil (naturals ns))) ∙ ap (option_and_then edge_of) (naturals_complete ns [] small tt)
+by_word_complete (row relation k zs) line small is = rw (is, integers_complete 512 (relation ∷ k ∷ zs) small.0 (omega (arith, small.1)))
 by_word_complete seal line small is = ap by_word is
 by_word_complete (claim turns tree) line small is = ap by_word is ∙ claim_complete turns tree small.0 small.1 small.2
-by_word_complete (void tree) line small is = ap by_word is ∙ ap (option_map void) (integers_complete 512 tree small.0 small.1)
+by_word_complete (void tree) line small is = rw (is, integers_complete 512 tree small.0 small.1)
 by_word_complete step line small is = ap by_word is
 by_word_complete withdraw line small is = ap by_word is
 by_word_complete told line small is = ap by_word is
