@@ -1,8 +1,8 @@
 -- The readers of lists take just what is written of a list.
-use Rattle.std.proofs.Common.{◌≡◌, ℕ, zero, suc, ◌≤◌, List, [], ◌∷◌, ◌++◌, length, ℤ, Some, decimal, Option, refl, ap, ◌∙◌, append_assoc, arith}
+use Rattle.std.proofs.Common.{◌≡◌, ℕ, zero, suc, ◌≤◌, List, [], ◌∷◌, ◌++◌, length, ℤ, Some, decimal, refl, ap, append_assoc, arith}
 use Rattle.std.specs.Fmt.{signed_decimal}
 use Rattle.std.specs.List.{All}
-use Rattle.std.specs.Option.{IfSome, option_and_then, option_map}
+use Rattle.std.specs.Option.{IfSome}
 use Rattle.std.proofs.lemmas.List.Elements.{All-nil, All-cons, All-head, All-tail}
 use Rattle.grammar.specs.Numbers.{natural_front, integer_front, natural_after, integer_after}
 use Rattle.grammar.specs.Reading.{naturals_front, integers_in}
@@ -42,7 +42,7 @@ naturals_complete (n ∷ ns) rest small ends =
     rw (
       append_assoc (decimal n) (naturals ns) rest,
       one_natural.complete n (naturals ns ++ rest) (All-head Natural n ns small) (ends_naturals ns rest ends),
-      naturals_complete ns rest (All-tail Natural n ns small) ends
+      naturals_complete ns rest (All-tail Natural n ns small) ends,
     )
 
 -- ---- integers up to the end

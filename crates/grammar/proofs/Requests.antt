@@ -1,7 +1,7 @@
 -- A line is read as a request exactly if the request is spelled so.
 use Rattle.std.proofs.Common.{◌≡◌, ℕ, ◌+◌, ◌-◌, ◌≤◌, eqb, leb, List, [], ◌∷◌, ◌++◌, length, get_or, ℤ, Some, None, codes, decimal, Option, sym, refl, ap, ◌∙◌, append_assoc, arith}
 use Rattle.std.specs.List.{All}
-use Rattle.std.specs.Option.{IfSome, option_and_then, option_map, option_map_or}
+use Rattle.std.specs.Option.{IfSome, option_and_then, option_map_or}
 use Rattle.std.proofs.lemmas.Option.{IfSome_then, MatchOption-at_some}
 use Rattle.std.proofs.lemmas.List.{append-nil, nil_from_length}
 use Rattle.std.proofs.lemmas.Bool.{cond-true, eqb-true, le-leb, leb-true}
@@ -83,7 +83,7 @@ claim_complete turns tree small small' few =
       one_natural.complete (length turns) (naturals turns ++ integers tree) (omega arith) (ends_naturals turns (integers tree) (ends_integers tree)),
       le-leb (length turns) 511 (omega arith),
       naturals_complete turns (integers tree) small (ends_integers tree),
-      integers_complete (511 - length turns) tree small' (omega arith)
+      integers_complete (511 - length turns) tree small' (omega arith),
     )
 
 -- a spelling of a request, one form after the other
