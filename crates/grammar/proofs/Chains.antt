@@ -25,7 +25,3 @@ test_holds b o Q passed = cond_both b o None (λ r. IfSome r Q) passed (λ faile
 pub none_holds : {A : Type 0} (o : Option A) → IfSome o (λ x. ⊥) → None ≡ o
 none_holds None h = refl
 none_holds (Some x) h = absurd h
-
-pub some_holds : {A : Type 0} (o : Option A) {P : A → Type 0} → ((x : A) → o ≡ Some x → P x) → IfSome o P
-some_holds None h = tt
-some_holds (Some x) h = h x refl

@@ -1,5 +1,6 @@
 -- The readers of numbers take just decimal numerals.
-use Rattle.std.proofs.Common.{◌≡◌, ℕ, zero, suc, ◌+◌, ◌/◌, ◌%◌, ◌<◌, ◌≤◌, eqb, ltb, List, [], ◌∷◌, ◌++◌, ℤ, pos, negsuc, Some, decimal, Option, refl, ap, ◌∙◌, append_assoc, arith}
+use Rattle.std.proofs.Common.{◌≡◌, ℕ, zero, suc, ◌+◌, ◌-◌, ◌*◌, ◌/◌, ◌%◌, ◌<◌, ◌≤◌, ◌&&◌, eqb, ltb, nat_lt, List, [], ◌∷◌, ◌++◌, ℤ, pos, negsuc, Some, decimal, Option, refl, ap, ◌∙◌, append_assoc, arith}
+use Rattle.std.specs.Char.{is_ascii_digit}
 use Rattle.std.specs.Fmt.{signed_decimal}
 use Rattle.std.specs.Option.{IfSome, option_and_then}
 use Rattle.std.proofs.lemmas.Fmt.{decimal_digit, decimal_step, decimal_by_steps}
@@ -9,7 +10,7 @@ use Rattle.std.proofs.lemmas.Bool.{cond-true, cond_both, eq-eqb, eqb-true, lt-lt
 use Rattle.std.proofs.lemmas.Bool.Decides.{nat_tests}
 use Rattle.grammar.specs.Numbers.{digit, with_digit, digits_on, natural_front, positive, negative, sized, integer_front, after}
 use Rattle.grammar.specs.Spelling.{Natural, Integer}
-use Rattle.grammar.proofs.Chains.{and_then_holds, map_holds, or_holds, test_holds, some_holds}
+use Rattle.grammar.proofs.Chains.{and_then_holds, map_holds, or_holds, test_holds}
 use Rattle.grammar.proofs.Readers.{mark_before, no_mark, Ends, Found, Reads}
 
 -- ---- one digit
@@ -17,14 +18,16 @@ use Rattle.grammar.proofs.Readers.{mark_before, no_mark, Ends, Found, Reads}
 digit_is : (n : ℕ) → n < 10 → digit (48 + n) ≡ Some n
 digit_is n h = grind (arith, nat_tests)
 
-digit_sound : (c n : ℕ) → digit c ≡ Some n → (n < 10) × (decimal n ≡ c ∷ [])
-digit_sound c n e = grind (arith, nat_tests, decimal_digit)
+digit_sound : (c : ℕ) → IfSome (digit c) (λ n. (n < 10) × (decimal n ≡ c ∷ []))
+digit_sound c = test_holds (is_ascii_digit c) (Some (c - 48)) _ (λ tells. grind (arith, nat_tests, decimal_digit))
 
 with_digit_is : (n : ℕ) → 10 ≤ n → n < 4294967296 → with_digit (n / 10) (48 + n % 10) ≡ Some n
 with_digit_is n h small = grind (arith, nat_tests)
 
-with_digit_sound : (n c m : ℕ) → with_digit n c ≡ Some m → Natural m × (decimal m ≡ decimal n ++ (c ∷ []))
-with_digit_sound n c m e = grind (arith, nat_tests, decimal_step)
+with_digit_sound : (n c : ℕ) → IfSome (with_digit n c) (λ m. Natural m × (decimal m ≡ decimal n ++ (c ∷ [])))
+with_digit_sound n c =
+    let m = n * 10 + (c - 48) in
+    test_holds (nat_lt 0 n && (is_ascii_digit c && nat_lt m 4294967296)) (Some m) _ (λ fits. grind (arith, nat_tests, decimal_step))
 
 -- ---- natural numbers
 
@@ -46,13 +49,13 @@ digits_sound : (n : ℕ) (text : List ℕ) → Natural n → IfSome (digits_on n
 digits_sound n [] small = (refl, small, tt)
 digits_sound n (c ∷ cs) small =
     cond_both (eqb c 32) _ _ (λ o. IfSome o (Found decimal Natural (decimal n ++ (c ∷ cs)))) (λ e. (refl, small, eqb-true c 32 e)) (λ no.
-    and_then_holds _ (with_digit n c) _ (some_holds (with_digit n c) (with_digit_sound n c)) (λ m more.
+    and_then_holds _ (with_digit n c) _ (with_digit_sound n c) (λ m more.
     IfSome_then (digits_on m cs) (digits_sound m cs more.0) (λ p s. (cc (append_assoc (decimal n) (c ∷ []) cs), s.1, s.2))))
 
 natural_sound : (text : List ℕ) → IfSome (natural_front text) (Found decimal Natural text)
 natural_sound [] = tt
 natural_sound (c ∷ cs) =
-    and_then_holds _ (digit c) _ (some_holds (digit c) (digit_sound c)) (λ n first.
+    and_then_holds _ (digit c) _ (digit_sound c) (λ n first.
     IfSome_then (digits_on n cs) (digits_sound n cs (omega arith)) (λ p s. (cc, s.1, s.2)))
 
 pub reads_natural : Reads natural_front decimal Natural

@@ -1,6 +1,5 @@
 -- A line is read as a request exactly if the request is spelled so.
-use Rattle.std.proofs.Common.{◌≡◌, ℕ, ◌+◌, ◌-◌, ◌≤◌, eqb, leb, List, [], ◌∷◌, ◌++◌, length, get_or, ℤ, Some, None, codes, decimal, Option, sym, refl, ap, ◌∙◌, append_assoc, arith}
-use Rattle.std.specs.List.{All}
+use Rattle.std.proofs.Common.{◌≡◌, ℕ, ◌-◌, eqb, leb, List, [], ◌∷◌, ◌++◌, length, get_or, ℤ, Some, None, codes, decimal, Option, sym, refl, ap, ◌∙◌, append_assoc, arith}
 use Rattle.std.specs.Option.{IfSome, option_and_then, option_map_or}
 use Rattle.std.proofs.lemmas.Option.{IfSome_then, MatchOption-at_some}
 use Rattle.std.proofs.lemmas.List.{append-nil, nil_from_length}
@@ -9,7 +8,7 @@ use Rattle.std.proofs.lemmas.Slice.Eq.{text_from_reads}
 use Rattle.grammar.specs.Numbers.{after, natural_after}
 use Rattle.grammar.specs.Reading.{naturals_front, integers_in, edge_of, edge_in, row_of, row_in, claim_of, claim_in, void_in, alone, bare_call, by_word, request_in}
 use Rattle.history.specs.Calls.{Request, edge, row, seal, claim, void, step, withdraw, told}
-use Rattle.grammar.specs.Spelling.{naturals, integers, Natural, Integer, Within, Spelling, Spells}
+use Rattle.grammar.specs.Spelling.{naturals, integers, Within, Spelling, Spells}
 use Rattle.grammar.proofs.Chains.{and_then_holds, map_holds, or_holds, test_holds}
 use Rattle.grammar.proofs.Readers.{mark_before}
 use Rattle.grammar.proofs.NumberLists.{FoundIntegers, one_natural, naturals_sound, naturals_complete, integers_sound, integers_complete, ends_naturals, ends_integers}
@@ -20,6 +19,7 @@ Right line q = Within q × Spelling q line
 
 -- ---- from a reader to the requests
 
+-- five numbers, read by their places
 five : (ns : List ℕ) → length ns ≡ 5 → ns ≡ get_or ns 0 0 ∷ get_or ns 1 0 ∷ get_or ns 2 0 ∷ get_or ns 3 0 ∷ get_or ns 4 0 ∷ []
 five ns h = text_from_reads ns (get_or ns 0 0 ∷ get_or ns 1 0 ∷ get_or ns 2 0 ∷ get_or ns 3 0 ∷ get_or ns 4 0 ∷ []) h (refl, (refl, (refl, (refl, (refl, tt)))))
 
@@ -75,38 +75,29 @@ by_word_sound line =
 
 -- ---- from a request to what is read
 
-claim_complete : (turns : List ℕ) (tree : List ℤ) → All Natural turns → All Integer tree → 1 + length turns + length tree ≤ 512 →
-    claim_in (naturals (length turns ∷ turns) ++ integers tree) ≡ Some (claim turns tree)
-claim_complete turns tree small small' few =
-    rw (
-      append_assoc (decimal (length turns)) (naturals turns) (integers tree),
-      one_natural.complete (length turns) (naturals turns ++ integers tree) (omega arith) (ends_naturals turns (integers tree) (ends_integers tree)),
-      le-leb (length turns) 511 (omega arith),
-      naturals_complete turns (integers tree) small (ends_integers tree),
-      integers_complete (511 - length turns) tree small' (omega arith),
-    )
-
--- a spelling of a request, one form after the other
+-- each spelling of a request is read as the request
 by_word_complete : (q : Request) (line : List ℕ) → Within q → Spelling q line → by_word line ≡ Some q
 by_word_complete (edge a b c d e) line small is =
     let ns = a ∷ b ∷ c ∷ d ∷ e ∷ [] in
     ap by_word is ∙ ap edge_in (sym (append-nil (naturals ns))) ∙ ap (option_and_then edge_of) (naturals_complete ns [] small tt)
 by_word_complete (row relation k zs) line small is = rw (is, integers_complete 512 (relation ∷ k ∷ zs) small.0 (omega (arith, small.1)))
-by_word_complete seal line small is = ap by_word is
-by_word_complete (claim turns tree) line small is = ap by_word is ∙ claim_complete turns tree small.0 small.1 small.2
+by_word_complete (claim turns tree) line small is =
+    rw (
+      is,
+      append_assoc (decimal (length turns)) (naturals turns) (integers tree),
+      one_natural.complete (length turns) (naturals turns ++ integers tree) (omega (arith, small.2)) (ends_naturals turns (integers tree) (ends_integers tree)),
+      le-leb (length turns) 511 (omega (arith, small.2)),
+      naturals_complete turns (integers tree) small.0 (ends_integers tree),
+      integers_complete (511 - length turns) tree small.1 (omega (arith, small.2)),
+    )
 by_word_complete (void tree) line small is = rw (is, integers_complete 512 tree small.0 small.1)
-by_word_complete step line small is = ap by_word is
-by_word_complete withdraw line small is = ap by_word is
-by_word_complete told line small is = ap by_word is
+by_word_complete other line small is = ap by_word is
 
 -- ---- the same within the length of a line
 
-line_sound : (line : List ℕ) → IfSome (request_in line) (λ q. Spells q line)
-line_sound line = test_holds (leb (length line) 4095) (by_word line) _ (λ e.
-    IfSome_then (by_word line) (by_word_sound line) (λ q right. (right.0, right.1, leb-true (length line) 4095 e)))
-
 pub request_sound : (line : List ℕ) (q : Request) → request_in line ≡ Some q → Spells q line
-request_sound line q h = MatchOption-at_some (Unit {0}) (λ q. Spells q line) q h (line_sound line)
+request_sound line q h = MatchOption-at_some (Unit {0}) (λ q. Spells q line) q h (test_holds (leb (length line) 4095) (by_word line) _ (λ e.
+    IfSome_then (by_word line) (by_word_sound line) (λ q right. (right.0, right.1, leb-true (length line) 4095 e))))
 
 pub request_complete : (line : List ℕ) (q : Request) → Spells q line → request_in line ≡ Some q
 request_complete line q h = cond-true (leb (length line) 4095) _ _ (le-leb (length line) 4095 h.2) ∙ by_word_complete q line h.0 h.1
