@@ -14,7 +14,7 @@ use Rattle.grammar.specs.Reading.{request_in}
 use Rattle.grammar.specs.Spelling.{Spells}
 use Rattle.grammar.proofs.Requests.{request_sound, request_complete}
 use Rattle.console.specs.Histories.{Renders, no_line, a_call, no_call, KeepsOn}
-use Rattle.console.specs.Judging.{Judged, Replies}
+use Rattle.console.specs.Judging.{LineJudged, Replies}
 use Rattle.console.specs.Rendering.{rendered}
 
 -- a line spells a call, or none
@@ -69,7 +69,7 @@ keeps_on held texts bytes last replies past r =
     record { calls = f.calls; renders = f.renders; reached = f.reached; rules = kept by_cycles one_read cycles_laws f.reached }
 
 -- the same of a reply at the front of a buffer
-pub line_keeps : (held next : Contents) (text bytes copied rest : List ℕ) (answer : Said) → Judged held text answer next → bytes ≡ rendered answer → copied ≡ bytes →
+pub line_keeps : (held next : Contents) (text bytes copied rest : List ℕ) (answer : Said) → LineJudged held text answer next → bytes ≡ rendered answer → copied ≡ bytes →
     KeepsOn held (text ∷ []) (take (length bytes) (copied ++ rest)) next
 line_keeps held next text bytes copied rest answer judged is same =
     let taken : take (length bytes) (copied ++ rest) ≡ rendered answer = ap (λ l. take (length bytes) (l ++ rest)) same ∙ take-append_seam bytes rest ∙ is in
