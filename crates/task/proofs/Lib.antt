@@ -4,11 +4,10 @@ pub mod Only
 pub mod Reach
 pub mod Spreads
 pub mod Seals
-pub mod Linear
+pub mod EdgeSums
+mod ByEdges
 pub mod ByPlaces
 mod Padded
-pub mod Rests
-mod ByEdges
 pub mod Flows
 pub mod Checks
 mod Costs
