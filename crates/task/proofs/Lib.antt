@@ -7,7 +7,6 @@ pub mod Seals
 pub mod EdgeSums
 mod ByEdges
 pub mod ByPlaces
-mod Padded
 pub mod Flows
 pub mod Checks
 mod Costs
