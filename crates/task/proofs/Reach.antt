@@ -1,5 +1,5 @@
 -- The goal is reached over live links exactly if it is within one more of them than there are.
-use Rattle.std.proofs.Common.{◌≡◌, ℕ, zero, suc, ◌<◌, ◌≤◌, Bool, true, false, ◌&&◌, eqb, ◌⊎◌, List, [], ◌∷◌, length, sym, refl, ap, subst, inl, inr, ⊎_elim, arith}
+use Rattle.std.proofs.Common.{◌≡◌, ℕ, zero, suc, ◌<◌, ◌≤◌, Bool, true, false, ◌&&◌, eqb, ◌⊎◌, List, [], ◌∷◌, ◌++◌, length, sym, refl, ap, subst, inl, inr, ⊎_elim, arith}
 use Rattle.std.specs.List.{AllByRecursion, IsDistinct, list_any}
 use Rattle.std.proofs.lemmas.Bool.{both_ways, eqb-true, eq-eqb, ltb-true, lt-ltb, and_parts, and_from, or_cases, or_left, or_right, or_parts}
 use Rattle.std.proofs.lemmas.Map.Keys.{IsDistinct-tail, IsDistinct-cons}
@@ -112,3 +112,16 @@ module _ (n : ℕ) (from to : ℕ → ℕ) (live : ℕ → Bool) (goal : ℕ) wh
       (xs : List ℕ) (v : ℕ) → Way n from to live v goal xs → marks v ≡ true
   spread_way marks at spread [] v e = subst (λ u. marks u ≡ true) (sym e) at
   spread_way marks at spread (x ∷ xs) v w = subst (λ u. marks u ≡ true) w.1 (spread x w.0 w.2 (spread_way marks at spread xs (to x) w.3))
+
+-- ---- the same way, the other way round
+
+module _ (n : ℕ) (live : ℕ → Bool) where
+  way_append : (from to : ℕ → ℕ) (u v w : ℕ) (xs ys : List ℕ) → Way n from to live u v xs → Way n from to live v w ys → Way n from to live u w (xs ++ ys)
+  way_append from to u v w [] ys e q = rw e q
+  way_append from to u v w (x ∷ xs) ys p q = (p.0, p.1, p.2, way_append from to (to x) v w xs ys p.3 q)
+
+  pub way_back : (from to : ℕ → ℕ) (u w : ℕ) (xs : List ℕ) → Way n from to live u w xs → (ys : List ℕ) × Way n to from live w u ys
+  way_back from to u w [] p = ([], sym p)
+  way_back from to u w (x ∷ xs) p =
+      let rest = way_back from to (to x) w xs p.3 in
+      (rest.0 ++ (x ∷ []), way_append to from w (to x) u rest.0 (x ∷ []) rest.1 (p.0, refl, p.2, p.1))
