@@ -1,5 +1,5 @@
 -- What the answer of `check_turns` says.
-use Rattle.std.proofs.Common.{◌≡◌, ℕ, ◌<◌, Bool, true, false, eqb, ◌↔◌, List, length, get_or, Some, None, Ok, Err, Option, Result, sym, refl, subst, arith}
+use Rattle.std.proofs.Common.{◌≡◌, ℕ, ◌<◌, Bool, true, false, ◌↔◌, List, length, get_or, Some, None, Ok, Err, Option, Result, sym, refl, subst, arith}
 use Rattle.price.specs.Questions.{ask}
 use Rattle.task.specs.declared.faults.TurnsFault.{TurnsFault}
 use Rattle.task.specs.declared.faults.TurnsFault.TheVariants.{Count, Range, Unbalanced, Stranded, RowBroken}
@@ -10,7 +10,7 @@ use Rattle.task.specs.Graph.{Node}
 use Rattle.task.specs.Lowest.{first}
 use Rattle.task.specs.Rows.{Row, Keeps}
 use Rattle.task.specs.Sides.{node_count}
-use Rattle.task.specs.Sound.{InRange, Balanced, Onward, no_row, row_at, Sound, LowestFailing, Counted, Flowing, Joined, Checked, turns_count, turns_range, node_unbalanced, edge_stranded, row_broken, turns_sound}
+use Rattle.task.specs.Sound.{InRange, Balanced, Onward, no_row, row_at, Sound, LowestFailing, Counted, Flowing, Checked, turns_count, turns_range, node_unbalanced, edge_stranded, row_broken, turns_sound}
 use Rattle.task.specs.TurnsAnswer.{over, unbalanced, stranded, broken, unless, turns_answer}
 use Rattle.task.proofs.Only.{First, first_says}
 use Rattle.task.proofs.Seals.{node_below, below_node}

@@ -1,5 +1,5 @@
 -- The price of turns, edge by edge.
-use Rattle.std.proofs.Common.{◌≡◌, ℕ, ◌+◌, ◌*◌, ◌^◌, ◌<◌, ◌≤◌, min, List, length, get_or, drop, ℤ, pos, ◌+ℤ◌, ◌*ℤ◌, Ok, Err, Result, sym, refl, subst, arith}
+use Rattle.std.proofs.Common.{◌≡◌, ℕ, ◌+◌, ◌*◌, ◌^◌, ◌<◌, ◌≤◌, min, List, length, get_or, drop, ℤ, pos, ◌+ℤ◌, Ok, Err, Result, sym, subst, arith}
 use Rattle.std.proofs.lemmas.Int.{ints}
 use Rattle.price.specs.Pairs.{Pair}
 use Rattle.price.specs.Ranges.{Both}

@@ -9,7 +9,7 @@ use Rattle.price.specs.Integers.{*ℤ-+ℤ}
 use Rattle.task.specs.declared.edges.Edge.{Edge}
 use Rattle.task.specs.Graph.{no_edge, edge_at}
 use Rattle.task.specs.Lowest.{one_if}
-use Rattle.task.specs.Turns.{turns, turns_from, turns_in}
+use Rattle.task.specs.Turns.{turns_from, turns_in}
 
 -- what `es[x]` gives, and what a loop over edges has at x
 pub edge_read : (es : List Edge) (x : ℕ) (e : Edge) → e ≡ get_or es x e → x < length es → e ≡ edge_at es x

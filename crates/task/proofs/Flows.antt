@@ -1,20 +1,19 @@
 -- What the tests of turns say of balance, of the way to the end and of rows.
-use Rattle.std.proofs.Common.{◌≡◌, ℕ, ◌<◌, ◌≤◌, true, false, not, eqb, List, [], ◌∷◌, length, get_or, ℤ, ap, ⊎_elim, arith}
+use Rattle.std.proofs.Common.{◌≡◌, ℕ, ◌<◌, ◌≤◌, true, false, not, List, [], ◌∷◌, length, get_or, ℤ, ⊎_elim, arith}
 use Rattle.std.proofs.lemmas.Int.{ints}
 use Rattle.std.specs.Bool.{Decides}
 use Rattle.std.specs.List.{All}
 use Rattle.std.proofs.lemmas.List.Elements.{All-nil, All-cons, All-weaker}
 use Rattle.std.proofs.lemmas.List.{get_or_default, get_or_past}
-use Rattle.std.proofs.lemmas.Bool.{both_ways, ne_eqb, ltb-true, lt-ltb, and_parts, and_cases, not-true, not-false, cases_lt}
+use Rattle.std.proofs.lemmas.Bool.{both_ways, ltb-true, and_parts, not-true, not-false, cases_lt}
 use Rattle.std.proofs.lemmas.Bool.Decides.{nat_tests}
 use Rattle.task.specs.declared.edges.Edge.{Edge}
 use Rattle.task.specs.declared.edges.Side.{Side}
 use Rattle.task.specs.declared.edges.Side.TheVariants.{Tail, Head}
 use Rattle.task.specs.declared.rows.Relation.{Relation}
 use Rattle.task.specs.declared.rows.Relation.TheVariants.{Below, AtMost, Equal}
-use Rattle.task.specs.Graph.{head_of, Path}
-use Rattle.task.specs.Lowest.{one_if}
-use Rattle.task.specs.Rows.{Row, row_sum, Meets, Keeps}
+use Rattle.task.specs.Graph.{head_of}
+use Rattle.task.specs.Rows.{Row, Meets, Keeps}
 use Rattle.task.specs.Sealing.{Ends}
 use Rattle.task.specs.Sides.{end_at, is_live, node_count, reaches}
 use Rattle.task.specs.Sound.{Balanced, Reaches, Onward, row_at, Sound, Walkable}

@@ -1,6 +1,5 @@
 -- The first number that passes a test, and the only one: what a search answers, and what the answer says.
-use Rattle.std.proofs.Common.{◌≡◌, ℕ, ◌+◌, ◌<◌, ◌≤◌, Bool, true, false, ◌&&◌, ltb, Some, None, Option, refl, arith}
-use Rattle.std.specs.List.{position}
+use Rattle.std.proofs.Common.{◌≡◌, ℕ, ◌+◌, ◌<◌, ◌≤◌, Bool, true, false, ◌&&◌, ltb, Some, None, Option, arith}
 use Rattle.std.proofs.lemmas.Bool.{both_ways, cond_both, ltb-true, ltb-false, and_parts}
 use Rattle.std.proofs.lemmas.Bool.Decides.{nat_tests}
 use Rattle.task.specs.Lowest.{lowest, first, sole, FirstFrom}

@@ -1,12 +1,12 @@
 -- Marks that spread over live edges, pass by pass.
-use Rattle.std.proofs.Common.{◌≡◌, ℕ, ◌+◌, ◌<◌, ◌≤◌, Bool, true, false, not, ◌⊎◌, List, [], ◌∷◌, length, get_or, set, replicate, sym, refl, ap, ◌∙◌, subst, ⊎_elim, arith, length-set}
+use Rattle.std.proofs.Common.{◌≡◌, ℕ, ◌+◌, ◌<◌, Bool, true, false, not, ◌⊎◌, List, [], ◌∷◌, length, get_or, set, replicate, refl, ap, ◌∙◌, ⊎_elim, arith, length-set}
 use Rattle.std.specs.List.{All}
 use Rattle.std.proofs.lemmas.Bool.Decides.{same_from_decides}
 use Rattle.std.proofs.lemmas.Grind.{get_or-set_at}
 use Rattle.std.proofs.lemmas.List.Elements.{All-replicate}
-use Rattle.std.proofs.lemmas.List.{get_or-set_same, get_or-set_other, get_or_past, get_or-replicate, length-replicate}
+use Rattle.std.proofs.lemmas.List.{get_or-set_same, get_or-set_other, get_or_past, length-replicate}
 use Rattle.std.proofs.lemmas.List.Sums.{sum_by-set}
-use Rattle.std.proofs.lemmas.Bool.{both_ways, cases_eq, cases_lt}
+use Rattle.std.proofs.lemmas.Bool.{both_ways}
 use Rattle.task.specs.declared.edges.Edge.{Edge}
 use Rattle.task.specs.declared.edges.Side.{Side}
 use Rattle.task.specs.Lowest.{one_if}
@@ -92,6 +92,6 @@ module _ (es : List Edge) (ts : List ℕ) (side : Side) (goal : ℕ) where
   all_marked marks r v = same_from_decides (get_or marks v false) (reaches es ts side goal v) (
     r.right v,
     λ q.
-    let way = reached_way v q in
-    spread_way (length es) (end_of es side) (end_of es (other_side side)) (is_live ts) goal (λ u. get_or marks u false) r.at_goal (r.done refl) way.0 v way.1,
+        let way = reached_way v q in
+        spread_way (length es) (end_of es side) (end_of es (other_side side)) (is_live ts) goal (λ u. get_or marks u false) r.at_goal (r.done refl) way.0 v way.1,
   ) (λ q. q, λ q. q)

@@ -1,5 +1,5 @@
 -- What the library's calls over lists answer, in the words of the specs.
-use Rattle.std.proofs.Common.{◌≡◌, ℕ, ◌+◌, ◌<◌, max, Bool, List, [], ◌∷◌, map, length, get_or, Option, sym, ap, ◌∙◌, subst, zero-add, arith}
+use Rattle.std.proofs.Common.{◌≡◌, ℕ, ◌+◌, ◌<◌, max, Bool, List, [], ◌∷◌, map, length, get_or, Option, sym, ap, ◌∙◌, zero-add, arith}
 use Rattle.std.specs.List.{position, enumerate_from, fold, reduce}
 use Rattle.std.specs.Option.{MatchOption}
 use Rattle.std.proofs.lemmas.List.FromFn.{length-enumerate_from, get_or-enumerate_from}

@@ -1,8 +1,6 @@
-use Rattle.std.proofs.Common.{ap, ◌∙◌, subst, sym, arith, rules}
-use Rattle.std.proofs.lemmas.Int.{ints}
+use Rattle.std.proofs.Common.{◌∙◌, subst, sym, arith, rules}
 use Rattle.price.proofs.PairSums.{parts}
 use Rattle.task.specs.Pricing.{Priced}
-use Rattle.task.specs.Turns.{edge_price, price_in}
 use Rattle.task.proofs.ByPlaces.{price_weighed}
 use Rattle.task.proofs.EdgeSums.{edge_read}
 use Rattle.task.proofs.Costs.{adding_more, adding_all, small_price}
