@@ -19,7 +19,7 @@ use Rattle.task.specs.Sides.{end_at, is_live, node_count, reaches}
 use Rattle.task.specs.Sound.{Balanced, Reaches, Onward, row_at, Sound, Walkable}
 use Rattle.task.specs.TurnsAnswer.{turns_at, unbalanced, stranded, meets, broken}
 use Rattle.task.proofs.Seals.{node_below, below_node, Forth, forth_path, path_forth, every_edge}
-use Rattle.task.proofs.Spreads.{reached_way, way_reached}
+use Rattle.task.proofs.Marks.{reached_way, way_reached}
 
 -- ---- balance
 

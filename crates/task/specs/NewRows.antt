@@ -27,11 +27,15 @@ related n = or_refused (relation_of n)
 abbrev pub padded : List ℤ → List ℤ
 padded cs = cs ++ replicate (64 - length cs) (pos 0)
 
+-- the row of a relation, k and a list of coefficients
+abbrev pub row_of : Relation → ℤ → List ℤ → Row
+row_of relation k cs = record { relation = relation; k = k; coefficients = padded cs }
+
 abbrev row_with : Option Relation → ℤ → List ℤ → Result Row RowFault
 row_with None k cs = Err NoRelation
 row_with (Some relation) k cs =
     ask (in_range 1048576 k && (nat_le (length cs) 64 && all_small cs)) Numbers
-    (Ok (record { relation = relation; k = k; coefficients = padded cs }))
+    (Ok (row_of relation k cs))
 
 -- a row of these numbers, or the question that they fail
 abbrev pub row_made : ℤ → ℤ → List ℤ → Result Row RowFault

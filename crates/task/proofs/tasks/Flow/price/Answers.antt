@@ -3,7 +3,7 @@ use Rattle.price.proofs.PairSums.{parts}
 use Rattle.task.specs.Pricing.{Priced}
 use Rattle.task.proofs.ByPlaces.{price_weighed}
 use Rattle.task.proofs.EdgeSums.{edge_read}
-use Rattle.task.proofs.Costs.{adding_more, adding_all, small_price}
+use Rattle.task.proofs.PriceSums.{adding_more, adding_all, small_price}
 use Rattle.task.proofs.tasks.Flow.price.Goals as goal
 
 pub loop-x-preserved : goal.loop-x-preserved

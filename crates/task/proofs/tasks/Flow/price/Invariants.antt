@@ -1,6 +1,6 @@
 -- What is added up before this edge, in either part.
 use Rattle.task.specs.Turns.{edge_price}
-use Rattle.task.proofs.Costs.{Adding}
+use Rattle.task.proofs.PriceSums.{Adding}
 use Rattle.task.proofs.tasks.Flow.price.Given as goal
 
 abbrev pub invariant-loop-x : goal.invariant-loop-x
