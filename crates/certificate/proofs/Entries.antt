@@ -3,7 +3,7 @@ use Rattle.std.proofs.Common.{◌≡◌, ℕ, ◌+◌, ◌<◌, List, length, ma
 use Rattle.std.proofs.lemmas.List.{get_or_append_left, get_or-append-add, get_or-map, length-map}
 use Rattle.price.specs.Pairs.{Pair, zero, ◌⊕◌, times}
 use Rattle.task.specs.Rows.{Row}
-use Rattle.certificate.specs.declared.cases.Column.{Column}
+use Rattle.certificate.specs.declared.leaf.Column.{Column}
 use Rattle.certificate.specs.declared.branches.Branch.{Branch}
 use Rattle.certificate.specs.Columns.{row_entry, branch_entry, entries, charged}
 use Rattle.certificate.specs.Splits.{branch_of}

@@ -2,7 +2,7 @@
 use Rattle.std.proofs.Common.{◌≡◌, ℕ, suc, ◌+◌, Bool, true, false, cond, List, [], ◌∷◌, length, position, nat_lt, ℤ, Some, None, Ok, Err, Option, refl, ap, ◌∙◌, arith}
 use Rattle.std.specs.List.{position_or_len}
 use Rattle.std.proofs.lemmas.Bool.Decides.{nat_tests}
-use Rattle.price.specs.declared.refusals.Refusal.TheVariants.{TreeRange}
+use Rattle.certificate.specs.declared.faults.TreeFault.TheVariants.{Range}
 use Rattle.task.specs.Coefficients.{in_range}
 use Rattle.certificate.specs.RangeTests.{near, far}
 use Rattle.certificate.specs.Tasks.{Answer}
@@ -10,7 +10,7 @@ use Rattle.certificate.specs.Verdicts.{range_answer}
 
 abbrev pub refused : ℕ → Option ℕ → Answer
 refused place None = Ok tt
-refused place (Some i) = Err (TreeRange (place + i))
+refused place (Some i) = Err (Range (place + i))
 
 abbrev counted : ℕ → ℕ → ℕ → Answer
 counted place n k = refused place (cond (nat_lt n k) (Some n) None)
@@ -22,7 +22,7 @@ later place n k = go (nat_lt n k) refl
     go true e =
         let f : nat_lt (1 + n) (suc k) ≡ true = grind (arith, nat_tests) in
         let p : place + 1 + n ≡ place + (1 + n) = omega arith in
-        rw (e, f) (ap (λ (i : ℕ). Err (TreeRange i)) p)
+        rw (e, f) (ap (λ (i : ℕ). Err (Range i)) p)
     go false e =
         let f : nat_lt (1 + n) (suc k) ≡ false = grind (arith, nat_tests) in
         rw (e, f)
@@ -36,4 +36,4 @@ range_first place (x ∷ xs) = go (in_range 67108864 x) refl (range_first (place
     go false e rest =
         let f : nat_lt 0 (suc (length xs)) ≡ true = grind (arith, nat_tests) in
         let p : place ≡ place + 0 = omega arith in
-        rw (e, f) (ap (λ (i : ℕ). Err (TreeRange i)) p)
+        rw (e, f) (ap (λ (i : ℕ). Err (Range i)) p)

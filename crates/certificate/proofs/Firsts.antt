@@ -1,15 +1,23 @@
 -- The first that fails of two lists, one behind the other.
-use Rattle.std.proofs.Common.{◌≡◌, ℕ, suc, ◌+◌, Bool, true, false, List, [], ◌∷◌, ◌++◌, length, refl, ap, ◌∙◌, arith}
+use Rattle.std.proofs.Common.{◌≡◌, ℕ, suc, ◌+◌, Bool, true, false, List, [], ◌∷◌, ◌++◌, length, Ok, Err, sym, refl, ap, ◌∙◌, arith}
 use Rattle.price.specs.Questions.{ask}
-use Rattle.price.specs.declared.refusals.Refusal.{Refusal}
+use Rattle.certificate.specs.declared.faults.TreeFault.{TreeFault}
 use Rattle.certificate.specs.Tasks.{Answer}
 use Rattle.certificate.specs.Verdicts.{first_failing, before}
 
-ask_before : (b : Bool) (refusal : Refusal) (a rest : Answer) → ask b refusal (before a rest) ≡ before (ask b refusal a) rest
+ask_before : (b : Bool) (refusal : TreeFault) (a rest : Answer) → ask b refusal (before a rest) ≡ before (ask b refusal a) rest
 ask_before true refusal a rest = refl
 ask_before false refusal a rest = refl
 
-module _ {A : Type 0} (ok : ℕ → A → Bool) (refusal : ℕ → Refusal) where
+-- an answer that is the first, if that refuses, or else the second
+pub record FirstOf (all first rest : Answer) : Type 0 where
+  pub refused : {e : TreeFault} → ◌≡◌ {A = Answer} (Err e) first → ◌≡◌ {A = Answer} (Err e) all
+  pub passed : ◌≡◌ {A = Answer} (Ok tt) first → all ≡ rest
+
+pub first_of : (all first rest : Answer) → all ≡ before first rest → FirstOf all first rest
+first_of all first rest e = record { refused = λ h. ap (λ a. before a rest) h ∙ sym e; passed = λ h. e ∙ sym (ap (λ a. before a rest) h) }
+
+module _ {A : Type 0} (ok : ℕ → A → Bool) (refusal : ℕ → TreeFault) where
   pub first_append : (n : ℕ) (xs ys : List A) → first_failing ok refusal n (xs ++ ys) ≡ before (first_failing ok refusal n xs) (first_failing ok refusal (n + length xs) ys)
   first_append n [] ys = let e : n ≡ n + 0 = omega arith in ap (λ (k : ℕ). first_failing ok refusal k ys) e
   first_append n (x ∷ xs) ys =

@@ -4,9 +4,9 @@ use Rattle.price.specs.Pairs.{Pair, ◌⊕◌, ◌⊖◌}
 use Rattle.task.specs.declared.edges.Edge as task
 use Rattle.task.specs.Rows.{Row, coefficient}
 use Rattle.task.specs.Graph.{edge_at}
-use Rattle.certificate.specs.declared.cases.Column.{Column}
-use Rattle.certificate.specs.declared.cases.Column.TheVariants.{Edge, Limit}
-use Rattle.certificate.specs.declared.cases.Leaf.{Leaf}
+use Rattle.certificate.specs.declared.leaf.Column.{Column}
+use Rattle.certificate.specs.declared.leaf.Column.TheVariants.{Edge, Limit}
+use Rattle.certificate.specs.declared.leaf.Leaf.{Leaf}
 use Rattle.certificate.specs.declared.branches.Branch.{Branch}
 use Rattle.certificate.specs.Columns.{row_entry, branch_entry, entries, charged}
 use Rattle.certificate.specs.Held.{leaf_held}

@@ -1,126 +1,69 @@
 -- What the answers mean.
-use Rattle.std.proofs.Common.{◌≡◌, ℕ, suc, ◌+◌, Bool, true, false, not, T, ◌⊎◌, List, [], ◌∷◌, ◌++◌, length, ℤ, Some, None, Ok, Option, sym, refl, ap, ◌∙◌, subst, inl, inr, arith}
-use Rattle.std.specs.List.{AllByRecursion}
-use Rattle.std.proofs.ByRecursion.{All-from_get_or}
+use Rattle.std.proofs.Common.{◌≡◌, ℕ, ◌+◌, ◌^◌, Bool, true, List, [], ◌∷◌, ◌++◌, length, ℤ, Some, None, Ok, Option, sym, refl, ap, ◌∙◌, subst, arith}
+use Rattle.std.specs.Bool.{IsTrue}
+use Rattle.std.specs.List.{All}
+use Rattle.std.proofs.lemmas.Bool.{leb-true, leb-false, and_parts}
+use Rattle.std.proofs.lemmas.List.Elements.{All-nil, All-cons, All-from_get_or}
 use Rattle.std.proofs.lemmas.Option.{none-some}
 use Rattle.price.specs.Pairs.{Pair}
-use Rattle.price.specs.Questions.{ask}
-use Rattle.price.specs.declared.refusals.Refusal.TheVariants.{TreeRange, MultiplierSign, AllowanceShort, BoundTooHigh}
+use Rattle.price.specs.declared.senses.Sense.{Sense}
+use Rattle.task.specs.Coefficients.{in_range}
 use Rattle.task.specs.Graph.{no_edge}
 use Rattle.task.specs.Sides.{node_count}
-use Rattle.certificate.specs.Judged.{SpelledBy, InRange, Signs, Allowances, Passes, Fails, sign, allowance, bound, OfList, not_one_tree, out_of_range, leaf_fails, proved}
-use Rattle.certificate.specs.LeafTests.{row_ok, edge_ok, bound_ok}
+use Rattle.task.proofs.Smalls.{within_is, outside_is}
+use Rattle.certificate.specs.declared.faults.TreeFault.TheVariants.{Range, MultiplierSign, AllowanceShort}
+use Rattle.certificate.specs.TreeJudged.{TreeJudged, Passes, Fails, sign, allowance, bound, OfList, not_one_tree, out_of_range, leaf_fails, proved, too_many_edges, too_many_rows, price_range, of_list}
+use Rattle.certificate.specs.LeafTests.{row_ok, edge_ok}
 use Rattle.certificate.specs.Lines.{Line, Leaf, leaves, case_lines, no_line}
 use Rattle.certificate.specs.RangeTests.{tests}
 use Rattle.certificate.specs.Reading.{read_tree, whole}
 use Rattle.certificate.specs.Tasks.{Task, Answer}
 use Rattle.certificate.specs.Trees.{Tree}
-use Rattle.certificate.specs.Verdicts.{before, edges_answer, leaf_answer, leaves_answer, tree_answer, found_answer, list_answer}
-use Rattle.certificate.proofs.Lowests.{First, first_means}
-use Rattle.certificate.proofs.Wholes.{whole_tree, whole_spelled, spells_it}
+use Rattle.certificate.specs.Verdicts.{before, leaf_answer, leaves_answer, found_answer, list_answer, task_answer}
+use Rattle.certificate.proofs.ByQuestions.{by_ask, by_first}
+use Rattle.certificate.proofs.Wholes.{whole_spelled, spells_it}
 
-module _ (le : Pair → Pair → Bool) (unit : Pair) (task : Task) (c : Pair) where
+module _ (le : Pair → Pair → Bool) (unit : Pair) (task : Task) (sense : Sense) (c : Pair) where
   abbrev Passing : List Line × Leaf → Type 0
-  Passing x = Passes le unit task c x.0 x.1
+  Passing x = Passes le unit task sense c x.0 x.1
 
-  -- ---- a leaf
+  module _ (P : Answer → Type 0) where
+    by_leaf : (lines : List Line) (l : Leaf) (n : ℕ) (rest : Answer) → ((a : Answer) → Fails le unit task sense c lines l n a → P a) → (Passes le unit task sense c lines l → P rest) →
+        P (before (leaf_answer le unit task sense c lines l n) rest)
+    by_leaf lines l n rest failing passing =
+        by_first (λ a. P (before a rest)) (row_ok le l) (MultiplierSign n) no_line lines (λ k f. failing _ (sign k refl f)) (λ s.
+        by_first (λ a. P (before a rest)) (edge_ok le sense lines l) (AllowanceShort n) no_edge task.edges (λ k f. failing _ (allowance k refl s f)) (λ e.
+        by_ask (λ a. P (before a rest)) (λ u. failing _ (bound refl s e u)) (λ u. passing (record { signs = s; allowances = e; under = u }))))
 
-  module _ (lines : List Line) (l : Leaf) (n : ℕ) where
-    abbrev last : Answer
-    last = ask (bound_ok le unit task c lines l) (BoundTooHigh n) (Ok tt)
-
-    abbrev Means : Answer → Type 0
-    Means a = ((a ≡ Ok tt) × Passes le unit task c lines l) ⊎ Fails le unit task c lines l n a
-
-    by_bound : Signs le task lines l → Allowances le task lines l → (b : Bool) → bound_ok le unit task c lines l ≡ b → Means (ask b (BoundTooHigh n) (Ok tt))
-    by_bound s a true e = inl (refl, record { signs = s; allowances = a; under = subst T (sym e) tt })
-    by_bound s a false e = inr (bound refl s a (subst (λ b. T (not b)) (sym e) tt))
-
-    by_edges : Signs le task lines l → First (edge_ok le lines l) (AllowanceShort n) no_edge task.edges → Means (before (edges_answer le task lines l n) last)
-    by_edges s (inl f) = subst (λ a. Means (before a last)) (sym f.0) (by_bound s f.1 (bound_ok le unit task c lines l) refl)
-    by_edges s (inr f) = inr (allowance f.0 (ap (λ a. before a last) f.1) s f.2)
-
-    by_signs : First (row_ok le l) (MultiplierSign n) no_line lines → Means (leaf_answer le unit task c lines l n)
-    by_signs (inl f) =
-        subst (λ a. Means (before a (before (edges_answer le task lines l n) last))) (sym f.0)
-        (by_edges f.1 (first_means (edge_ok le lines l) (AllowanceShort n) no_edge task.edges))
-    by_signs (inr f) = inr (sign f.0 (ap (λ a. before a (before (edges_answer le task lines l n) last)) f.1) f.2)
-
-    -- the rest is not asked
-    still_fails : (rest : Answer) → Fails le unit task c lines l n (leaf_answer le unit task c lines l n) → Fails le unit task c lines l n (before (leaf_answer le unit task c lines l n) rest)
-    still_fails rest (sign row e f) = sign row (ap (λ a. before a rest) e) f
-    still_fails rest (allowance edge e s f) = allowance edge (ap (λ a. before a rest) e) s f
-    still_fails rest (bound e s a f) = bound (ap (λ a. before a rest) e) s a f
-
-    leaf_means : Means (leaf_answer le unit task c lines l n)
-    leaf_means = by_signs (first_means (row_ok le l) (MultiplierSign n) no_line lines)
-
-  -- ---- the leaves of a tree
-
-  -- leaves that are numbered from n, of which one fails
-  record OneFails (n : ℕ) (xs : List (List Line × Leaf)) (answer : Answer) : Type 0 where
-    passed : List (List Line × Leaf)
-    rest : List (List Line × Leaf)
-    lines : List Line
-    l : Leaf
-    is : xs ≡ passed ++ ((lines, l) ∷ rest)
-    before_it : AllByRecursion Passing passed
-    fails : Fails le unit task c lines l (n + length passed) answer
-
-  abbrev Leaves : ℕ → List (List Line × Leaf) → Answer → Type 0
-  Leaves n xs a = ((a ≡ Ok tt) × AllByRecursion Passing xs) ⊎ OneFails n xs a
-
-  one_more : (n : ℕ) (x : List Line × Leaf) (xs : List (List Line × Leaf)) (a : Answer) → Passing x → Leaves (n + 1) xs a → Leaves n (x ∷ xs) a
-  one_more n x xs a ok (inl f) = inl (f.0, (ok, f.1))
-  one_more n x xs a ok (inr f) =
-      let e : n + 1 + length f.passed ≡ n + suc (length f.passed) = omega arith in
-      inr (record {
-        passed = x ∷ f.passed;
-        rest = f.rest;
-        lines = f.lines;
-        l = f.l;
-        is = ap (λ ys. x ∷ ys) f.is;
-        before_it = (ok, f.before_it);
-        fails = subst (λ (k : ℕ). Fails le unit task c f.lines f.l k a) e f.fails;
-      })
-
-  by_leaf : (n : ℕ) (x : List Line × Leaf) (xs : List (List Line × Leaf)) (rest : Answer) → Leaves (n + 1) xs rest → Means x.0 x.1 n (leaf_answer le unit task c x.0 x.1 n) →
-      Leaves n (x ∷ xs) (before (leaf_answer le unit task c x.0 x.1 n) rest)
-  by_leaf n x xs rest then (inl f) = subst (λ a. Leaves n (x ∷ xs) (before a rest)) (sym f.0) (one_more n x xs rest f.1 then)
-  by_leaf n x xs rest then (inr f) =
-      let e : n ≡ n + 0 = omega arith in
-      inr (record {
-        passed = [];
-        rest = xs;
-        lines = x.0;
-        l = x.1;
-        is = refl;
-        before_it = tt;
-        fails = subst (λ (k : ℕ). Fails le unit task c x.0 x.1 k (before (leaf_answer le unit task c x.0 x.1 n) rest)) e (still_fails x.0 x.1 n rest f);
-      })
-
-  leaves_means : (n : ℕ) (xs : List (List Line × Leaf)) → Leaves n xs (leaves_answer le unit task c n xs)
-  leaves_means n [] = inl (refl, tt)
-  leaves_means n (x ∷ xs) = by_leaf n x xs (leaves_answer le unit task c (n + 1) xs) (leaves_means (n + 1) xs) (leaf_means x.0 x.1 n)
-
-  -- ---- the list
+    -- leaves that are numbered from n
+    by_leaves : (n : ℕ) (xs : List (List Line × Leaf)) →
+        ((passed rest : List (List Line × Leaf)) (lines : List Line) (l : Leaf) → xs ≡ passed ++ ((lines, l) ∷ rest) → All Passing passed → (k : ℕ) → k ≡ n + length passed → (a : Answer) → Fails le unit task sense c lines l k a → P a) →
+        (All Passing xs → P (Ok tt)) → P (leaves_answer le unit task sense c n xs)
+    by_leaves n [] failing passing = passing (All-nil Passing)
+    by_leaves n (x ∷ xs) failing passing = by_leaf x.0 x.1 n _
+        (failing [] xs x.0 x.1 refl (All-nil Passing) n (omega arith))
+        (λ ok. by_leaves (n + 1) xs
+        (λ passed rest lines l is ps k e. failing (x ∷ passed) rest lines l (ap (λ ys. x ∷ ys) is) (All-cons Passing x passed ok ps) k (omega arith))
+        (λ ps. passing (All-cons Passing x xs ok ps)))
 
   module _ (top : ℤ) (xs : List ℤ) where
-    by_leaves : (t : Tree) → SpelledBy task xs t → InRange task top t → Leaves 0 (leaves (case_lines task) t) (tree_answer le unit task c t) → OfList le unit task c top xs (tree_answer le unit task c t)
-    by_leaves t s near! (inl f) = proved f.0 t s near! f.1
-    by_leaves t s near! (inr f) =
-        let e : 0 + length f.passed ≡ length f.passed = omega arith in
-        leaf_fails t s near! f.passed f.rest f.lines f.l f.is f.before_it (subst (λ (k : ℕ). Fails le unit task c f.lines f.l k (tree_answer le unit task c t)) e f.fails)
+    list_means : OfList le unit task sense c top xs (list_answer le unit task sense c top xs)
+    list_means = go (whole (read_tree 12 (node_count task.edges) (length task.rows) xs)) refl
+      where
+        go : (o : Option Tree) → whole (read_tree 12 (node_count task.edges) (length task.rows) xs) ≡ o → OfList le unit task sense c top xs (found_answer le unit task sense c top o)
+        go None e = not_one_tree refl (λ t s. none-some t (sym e ∙ whole_spelled (node_count task.edges) (length task.rows) xs t s))
+        go (Some t) e =
+            let s = spells_it (node_count task.edges) (length task.rows) xs t e in
+            let near = All-from_get_or IsTrue (tests (length task.edges) top t) true in
+            by_first (OfList le unit task sense c top xs) (λ i b. b) Range true (tests (length task.edges) top t) (λ k f. out_of_range t s k refl f) (λ r.
+            by_leaves (OfList le unit task sense c top xs) 0 (leaves (case_lines task) t)
+            (λ passed rest lines l is ps k e a f. let same : k ≡ length passed = omega arith in leaf_fails t s (near r) passed rest lines l is ps (subst (λ (n : ℕ). Fails le unit task sense c lines l n a) same f))
+            (λ ps. proved refl t s (near r) ps))
 
-    by_range : (t : Tree) → SpelledBy task xs t → First (λ i b. b) TreeRange true (tests (length task.edges) top t) → OfList le unit task c top xs (found_answer le unit task c top (Some t))
-    by_range t s (inl f) =
-        subst (λ a. OfList le unit task c top xs (before a (tree_answer le unit task c t))) (sym f.0)
-        (by_leaves t s (All-from_get_or (λ b. T b) (tests (length task.edges) top t) true f.1) (leaves_means 0 (leaves (case_lines task) t)))
-    by_range t s (inr f) = out_of_range t s f.0 (ap (λ a. before a (tree_answer le unit task c t)) f.1) f.2
-
-    by_tree : (o : Option Tree) → whole (read_tree 12 (node_count task.edges) (length task.rows) xs) ≡ o → OfList le unit task c top xs (found_answer le unit task c top o)
-    by_tree None e = not_one_tree refl (λ t s. none-some t (sym e ∙ whole_spelled (node_count task.edges) (length task.rows) xs t s))
-    by_tree (Some t) e = by_range t (spells_it _ _ xs t (whole_tree _ t e)) (first_means (λ i b. b) TreeRange true (tests (length task.edges) top t))
-
-    pub list_means : OfList le unit task c top xs (list_answer le unit task c top xs)
-    list_means = by_tree (whole (read_tree 12 (node_count task.edges) (length task.rows) xs)) refl
+    pub judged : TreeJudged le unit task sense c top xs (task_answer le unit task sense c top xs)
+    judged =
+        by_ask (TreeJudged le unit task sense c top xs) (λ e. too_many_edges refl (leb-false _ _ e)) (λ es.
+        by_ask (TreeJudged le unit task sense c top xs) (λ e. too_many_rows refl (leb-true _ _ es) (leb-false _ _ e)) (λ rs.
+        by_ask (TreeJudged le unit task sense c top xs) (λ e. price_range refl (leb-true _ _ es) (leb-true _ _ rs) (λ f. outside_is (2 ^ 42) c.0 c.1 f e)) (λ e.
+        let t = and_parts (in_range (2 ^ 42) c.0) (in_range (2 ^ 42) c.1) e in
+        of_list (leb-true _ _ es) (leb-true _ _ rs) (within_is (2 ^ 42) c.0 t.0, within_is (2 ^ 42) c.1 t.1) list_means)))

@@ -26,11 +26,6 @@ complete (suc k) nodes rows (leaf d ps ms) rest f = rw (leaf_whole nodes rows d 
 complete (suc k) nodes rows (split e m s t) rest f =
     rw (append_assoc (spelled s) (spelled t) rest, complete k nodes (rows + 1) s (spelled t ++ rest) f.0, complete k nodes (rows + 1) t rest f.1)
 
-pub one_spelling : (k n r : ℕ) (s t : Tree) (xs : List ℤ) → Fits k n r s → Fits k n r t → spelled s ≡ xs → spelled t ≡ xs → s ≡ t
-one_spelling k n r s t xs f g p q =
-    let same : spelled s ++ [] ≡ spelled t ++ [] = ap (λ ys. ys ++ []) (p ∙ sym q) in
-    ap (λ w. w.0) (same_Some (s, []) (t, []) (sym (complete k n r s [] f) ∙ ap (read_tree k n r) same ∙ complete k n r t [] g))
-
 -- ---- what is read is spelled
 
 pieces : {X : Type 0} (a b : ℕ) (xs : List X) → (take a xs ++ take b (drop a xs)) ++ drop (a + b) xs ≡ xs

@@ -1,97 +1,93 @@
 -- A tree whose leaves all pass bounds every run that keeps the rows.
-use Rattle.std.proofs.Common.{◌≡◌, ℕ, ◌<◌, ◌≤◌, Bool, T, List, [], ◌∷◌, ◌++◌, length, pos, nat_abs, sym, ◌∙◌, subst, subst₂, ⊎_elim, arith}
-use Rattle.std.proofs.lemmas.Int.{ints}
-use Rattle.std.specs.List.{AllByRecursion}
-use Rattle.std.proofs.ByRecursion.{All-push}
+use Rattle.std.proofs.Common.{◌≡◌, ℕ, ◌+◌, ◌<◌, ◌≤◌, Bool, true, T, List, [], ◌∷◌, ◌++◌, length, pos, nat_abs, sym, ◌∙◌, subst, subst₂, ⊎_elim, arith, length-append}
+use Rattle.std.specs.Bool.{IsTrue}
+use Rattle.std.specs.List.{All}
 use Rattle.std.proofs.lemmas.Bool.{cases_lt}
+use Rattle.std.proofs.lemmas.Float.{T_from_true}
+use Rattle.std.proofs.lemmas.Int.{ints}
+use Rattle.std.proofs.lemmas.List.{get_or_append_left, get_or-append-add}
+use Rattle.std.proofs.lemmas.List.Elements.{All-nil, All-cons, All-head, All-append, All-push}
 use Rattle.price.specs.Laws.{Laws, cheaper}
 use Rattle.price.specs.Pairs.{Pair, zero, ◌⊕◌, ◌⊖◌, times}
+use Rattle.price.specs.declared.senses.Sense.{Sense}
 use Rattle.price.proofs.Orders.{le_refl, within_bound}
 use Rattle.price.proofs.PairSums.{no_times}
-use Rattle.price.specs.Tests.{is_yes, clash}
+use Rattle.price.specs.Tests.{clash}
 use Rattle.task.specs.Graph.{Path}
 use Rattle.task.specs.Places.{prices_along}
 use Rattle.task.specs.Rows.{KeepsAll}
 use Rattle.task.specs.Turns.{turns}
 use Rattle.task.proofs.ByPlaces.{prices_by_places}
-use Rattle.task.proofs.Joined.{all_front, all_behind}
-use Rattle.certificate.specs.Judged.{InRange, Passes}
+use Rattle.certificate.specs.TreeJudged.{InRange, Passes}
 use Rattle.certificate.specs.Lines.{Line, Leaf, leaf_of, leaves, case_lines, at_most, at_least, charge, potential, bound}
-use Rattle.certificate.specs.RangeTests.{inside, tests}
+use Rattle.certificate.specs.RangeTests.{record_tests, tests}
 use Rattle.certificate.specs.Soundness.{Between, NoneDearer, NoRun}
 use Rattle.certificate.specs.Tasks.{Task}
-use Rattle.certificate.specs.Trees.{Tree, leaf, split}
+use Rattle.certificate.specs.Trees.{Tree, leaf, split, split_record}
 use Rattle.certificate.proofs.Bounds.{limited}
 use Rattle.certificate.proofs.Limits.{Holds, rows_hold, at_most_holds, at_least_holds, all_rows}
 use Rattle.certificate.proofs.Walks.{places, path_within}
 
-module _ {le : Pair → Pair → Bool} {unit : Pair} (laws : Laws le unit) (task : Task) (c : Pair) (run : List ℕ) (path : Path task.edges task.start task.end run) where
-  price : Pair
-  price = prices_along task.edges run
+all_front : {X : Type 0} (P : X → Type 0) (xs ys : List X) → All P (xs ++ ys) → All P xs
+all_front P xs ys h k d low = subst P (get_or_append_left xs ys d k low) (h k d (omega (arith, length-append xs ys)))
 
-  abbrev Leaves : Tree → List Line → Type 0
-  Leaves t lines = AllByRecursion (λ x. Passes le unit task c x.0 x.1) (leaves lines t)
+all_behind : {X : Type 0} (P : X → Type 0) (xs ys : List X) → All P (xs ++ ys) → All P ys
+all_behind P xs ys h k d low = subst P (get_or-append-add xs ys k d) (h (length xs + k) d (omega (arith, length-append xs ys)))
 
-  -- D times the price of the run is within the leaf's bound
-  within : (lines : List Line) (l : Leaf) → Passes le unit task c lines l → AllByRecursion (Holds run) lines → T (le (times (pos l.scale) price) (bound task.start task.end lines l))
-  unfolding price
-  within lines l ok holds =
+-- a run turns the edge of a split at most m times or more often, and keeps that row: so it keeps the rows of some leaf
+module _ (run : List ℕ) (P : List Line × Leaf → Type 0) where
+  one_leaf : (t : Tree) (lines : List Line) → All P (leaves lines t) → All (Holds run) lines → (x : List Line × Leaf) × P x × All (Holds run) x.0
+  one_leaf (leaf d ps ms) lines ok holds = ((lines, leaf_of d ps ms), All-head P _ [] ok, holds)
+  one_leaf (split e m a b) lines ok holds =
+      let low : List Line = lines ++ (at_most (nat_abs e) (nat_abs m) ∷ []) in
+      let high : List Line = lines ++ (at_least (nat_abs e) (nat_abs m) ∷ []) in
+      ⊎_elim
+      (λ (above : nat_abs m < turns (nat_abs e) run). one_leaf b high (all_behind P (leaves low a) (leaves high b) ok) (All-push (Holds run) lines _ holds (at_least_holds (nat_abs e) (nat_abs m) run above)))
+      (λ (within : turns (nat_abs e) run ≤ nat_abs m). one_leaf a low (all_front P (leaves low a) (leaves high b) ok) (All-push (Holds run) lines _ holds (at_most_holds (nat_abs e) (nat_abs m) run within)))
+      (cases_lt (nat_abs m) (turns (nat_abs e) run))
+
+-- D is 0 in every leaf
+zero_scales : (edges : ℕ) (t : Tree) (lines : List Line) → All IsTrue (tests edges (pos 0) t) → All (λ x. x.1.scale ≡ 0) (leaves lines t)
+zero_scales edges (leaf d ps ms) lines near! =
+    let small : nat_abs d ≤ 0 = limited (pos 0) d 0 (omega (arith, ints)) (near! 1 true (omega arith)) in
+    All-cons (λ x. x.1.scale ≡ 0) _ [] (omega arith) (All-nil (λ x. x.1.scale ≡ 0))
+zero_scales edges (split e m a b) lines near! =
+    let rest = all_behind IsTrue (record_tests edges (pos 0) (split_record e m)) (tests edges (pos 0) a ++ tests edges (pos 0) b) near! in
+    All-append (λ x. x.1.scale ≡ 0) _ _ (zero_scales edges a _ (all_front IsTrue (tests edges (pos 0) a) (tests edges (pos 0) b) rest))
+    (zero_scales edges b _ (all_behind IsTrue (tests edges (pos 0) a) (tests edges (pos 0) b) rest))
+
+module _ {le : Pair → Pair → Bool} {unit : Pair} (laws : Laws le unit) (task : Task) (sense : Sense) (c : Pair) where
+  -- D times the price of a path is within the bound of a leaf whose rows it keeps
+  within : (run : List ℕ) → Path task.edges task.start task.end run → (lines : List Line) (l : Leaf) → Passes le unit task sense c lines l → All (Holds run) lines →
+      T (le (times (pos l.scale) (prices_along sense task.edges run)) (bound task.start task.end lines l))
+  within run path lines l ok holds =
       let ends : Pair = potential l task.start ⊖ potential l task.end in
       let charged : Pair = charge (λ r. places r.of_edge run) lines l.multipliers in
-      laws.trans (times (pos l.scale) price) (ends ⊕ charged) (bound task.start task.end lines l)
-      (path_within laws task lines l ok.allowances run task.start task.end path)
+      laws.trans _ (ends ⊕ charged) (bound task.start task.end lines l)
+      (path_within laws task sense lines l ok.allowances run task.start task.end path)
       (laws.add ends ends charged (charge (λ r. r.limit) lines l.multipliers) (le_refl laws ends) (all_rows laws run lines l.multipliers ok.signs holds))
 
-  -- with D = 0 the bound is no less than (0, 0) and cheaper
-  leaf_void : (lines : List Line) (l : Leaf) → l.scale ≡ 0 → Passes le unit task c lines l → AllByRecursion (Holds run) lines → ⊥
-  leaf_void lines l z ok holds =
-      let nothing : (a : Pair) → times (pos l.scale) a ≡ zero = λ a. (λ i. times (pos (z i)) a) ∙ no_times a in
-      clash (le zero (bound task.start task.end lines l))
-      (subst (λ x. T (le x (bound task.start task.end lines l))) (nothing price) (within lines l ok holds))
-      (subst (λ x. T (cheaper le (bound task.start task.end lines l) x)) (nothing (c ⊕ unit)) ok.under)
+  module _ (t : Tree) (ok : All (λ x. Passes le unit task sense c x.0 x.1) (leaves (case_lines task) t)) (two : Between task) where
+    -- a run leads from the start to the end
+    leads : (run : List ℕ) → KeepsAll task.edges task.rows run → Path task.edges task.start task.end run
+    leads run k =
+        let r = k.is_run in
+        subst₂ (λ (u v : ℕ). Path task.edges u v run) (two.start.only r.start r.starts) (two.end.only r.end r.ends) r.leads
 
-  -- a run turns the edge of a split at most m times or more often, and keeps that row
-  by_side : {A : Type 0} (e m : ℕ) (lines : List Line) → AllByRecursion (Holds run) lines → (AllByRecursion (Holds run) (lines ++ (at_most e m ∷ [])) → A) → (AllByRecursion (Holds run) (lines ++ (at_least e m ∷ [])) → A) → A
-  by_side e m lines holds low high = ⊎_elim
-      (λ (above : m < turns e run). high (All-push (Holds run) lines (at_least e m) holds (at_least_holds e m run above)))
-      (λ (within : turns e run ≤ m). low (All-push (Holds run) lines (at_most e m) holds (at_most_holds e m run within)))
-      (cases_lt m (turns e run))
+    pub none_dearer : NoneDearer le task sense c
+    none_dearer run k =
+        let w = one_leaf run (λ x. Passes le unit task sense c x.0 x.1) t (case_lines task) ok (rows_hold task.edges task.rows run k) in
+        subst (λ p. T (le p c)) (sym (prices_by_places sense task.edges run))
+        (within_bound laws w.0.1.scale _ c (bound task.start task.end w.0.0 w.0.1) (within run (leads run k) w.0.0 w.0.1 w.1 w.2) (T_from_true _ w.1.under))
 
-  tree_claim : (t : Tree) (lines : List Line) → Leaves t lines → AllByRecursion (Holds run) lines → T (le price c)
-  tree_claim (leaf d ps ms) lines ok holds =
-      within_bound laws (nat_abs d) price c (bound task.start task.end lines (leaf_of d ps ms)) (within lines (leaf_of d ps ms) ok.0 holds) ok.0.under
-  tree_claim (split e m a b) lines ok holds =
-      let low : List Line = lines ++ (at_most (nat_abs e) (nat_abs m) ∷ []) in
-      let high : List Line = lines ++ (at_least (nat_abs e) (nat_abs m) ∷ []) in
-      by_side (nat_abs e) (nat_abs m) lines holds
-      (tree_claim a low (all_front _ (leaves low a) (leaves high b) ok))
-      (tree_claim b high (all_behind _ (leaves low a) (leaves high b) ok))
-
-  -- D is 0 in every leaf
-  tree_void : (edges : ℕ) (t : Tree) (lines : List Line) → AllByRecursion (λ b. T b) (tests edges (pos 0) t) → Leaves t lines → AllByRecursion (Holds run) lines → ⊥
-  tree_void edges (leaf d ps ms) lines near! ok holds =
-      let small : nat_abs d ≤ 0 = limited (pos 0) d 0 (omega (arith, ints)) (is_yes (inside (pos 0) (pos 0) d) near!.1.0) in
-      leaf_void lines (leaf_of d ps ms) (omega arith) ok.0 holds
-  tree_void edges (split e m a b) lines near! ok holds =
-      let low : List Line = lines ++ (at_most (nat_abs e) (nat_abs m) ∷ []) in
-      let high : List Line = lines ++ (at_least (nat_abs e) (nat_abs m) ∷ []) in
-      let rest = near!.1.1.1 in
-      by_side (nat_abs e) (nat_abs m) lines holds
-      (tree_void edges a low (all_front _ (tests edges (pos 0) a) (tests edges (pos 0) b) rest) (all_front _ (leaves low a) (leaves high b) ok))
-      (tree_void edges b high (all_behind _ (tests edges (pos 0) a) (tests edges (pos 0) b) rest) (all_behind _ (leaves low a) (leaves high b) ok))
-
-module _ {le : Pair → Pair → Bool} {unit : Pair} (laws : Laws le unit) (task : Task) (c : Pair) (t : Tree) (ok : AllByRecursion (λ x. Passes le unit task c x.0 x.1) (leaves (case_lines task) t)) (two : Between task) where
-  -- a run leads from the start to the end
-  leads : (run : List ℕ) → KeepsAll task.edges task.rows run → Path task.edges task.start task.end run
-  leads run k =
-      let r = k.is_run in
-      subst₂ (λ (u v : ℕ). Path task.edges u v run) (two.start.only r.start r.starts) (two.end.only r.end r.ends) r.leads
-
-  pub none_dearer : NoneDearer le task c
-  unfolding price
-  none_dearer run k =
-      subst (λ p. T (le p c)) (sym (prices_by_places task.edges run))
-      (tree_claim laws task c run (leads run k) t (case_lines task) ok (rows_hold task.edges task.rows run k))
-
-  pub no_run : InRange task (pos 0) t → NoRun task
-  no_run zeros run k = tree_void laws task c run (leads run k) (length task.edges) t (case_lines task) zeros ok (rows_hold task.edges task.rows run k)
+    -- with D = 0 a bound is no less than (0, 0) and cheaper
+    pub no_run : InRange task (pos 0) t → NoRun task
+    no_run zeros run k =
+        let P : List Line × Leaf → Type 0 = λ x. Passes le unit task sense c x.0 x.1 × (x.1.scale ≡ 0) in
+        let w = one_leaf run P t (case_lines task) (λ i d low. (ok i d low, zero_scales (length task.edges) t (case_lines task) zeros i d low)) (rows_hold task.edges task.rows run k) in
+        let l : Leaf = w.0.1 in
+        let bound_of : Pair = bound task.start task.end w.0.0 l in
+        let nothing : (a : Pair) → times (pos l.scale) a ≡ zero = λ a. (λ i. times (pos (w.1.1 i)) a) ∙ no_times a in
+        clash (le zero bound_of)
+        (subst (λ x. T (le x bound_of)) (nothing (prices_along sense task.edges run)) (within run (leads run k) w.0.0 l w.1.0 w.2))
+        (subst (λ x. T (cheaper le bound_of x)) (nothing (c ⊕ unit)) (T_from_true _ w.1.0.under))

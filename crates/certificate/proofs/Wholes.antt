@@ -1,74 +1,45 @@
 -- A list that is exactly one tree.
-use Rattle.std.proofs.Common.{◌≡◌, ℕ, ◌-◌, Bool, true, false, cond, eqb, List, [], length, ℤ, Some, None, Err, Option, sym, refl, ap, ◌∙◌, subst, arith}
+use Rattle.std.proofs.Common.{◌≡◌, ℕ, Bool, true, false, eqb, List, [], length, ℤ, Some, None, Option, sym, refl, ap, ◌∙◌}
 use Rattle.std.proofs.lemmas.List.{append-nil, nil_from_length}
-use Rattle.std.proofs.lemmas.Bool.{eqb-true, false≢true}
-use Rattle.std.proofs.lemmas.Option.{none-some, same_Some}
-use Rattle.price.specs.Pairs.{Pair}
-use Rattle.price.specs.declared.refusals.Refusal.TheVariants.{NotOneTree}
+use Rattle.std.proofs.lemmas.Bool.{eqb-true, cond-true, cond-false}
+use Rattle.std.proofs.lemmas.Option.{cond_some}
 use Rattle.task.specs.Sides.{node_count}
+use Rattle.certificate.specs.declared.shapes.Shape.{Shape}
 use Rattle.certificate.specs.Held.{rest_of, ends}
-use Rattle.certificate.specs.RangeTests.{tests}
 use Rattle.certificate.specs.Reading.{whole, read_tree}
 use Rattle.certificate.specs.Tasks.{Task}
-use Rattle.certificate.specs.Trees.{Tree, Fits, Spells, spelled}
-use Rattle.certificate.specs.Verdicts.{before, range_answer, tree_answer, found_answer, list_answer}
+use Rattle.certificate.specs.Trees.{Tree, Spells, spelled}
 use Rattle.certificate.proofs.Spellings.{sound, complete}
 
--- the tree, where nothing is left
-whole_is : (o : Option (Tree × List ℤ)) → ends (rest_of o) ≡ true → (t : Tree) × (o ≡ Some (t, []))
-whole_is None h = absurd (false≢true h)
-whole_is (Some p) h = let none : p.1 ≡ [] = nil_from_length p.1 (eqb-true _ _ h) in (p.0, λ i. Some (p.0, none i))
+whole_tree : (o : Option (Tree × List ℤ)) (t : Tree) → whole o ≡ Some t → o ≡ Some (t, [])
+whole_tree None t h = cc
+whole_tree (Some p) t h = let s = cond_some (eqb (length p.1) 0) p.0 t h in λ i. Some (s.1 i, nil_from_length p.1 (eqb-true _ _ s.0) i)
 
-pub whole_tree : (o : Option (Tree × List ℤ)) (t : Tree) → whole o ≡ Some t → o ≡ Some (t, [])
-whole_tree None t h = absurd (none-some t h)
-whole_tree (Some p) t h = go (eqb (length p.1) 0) refl h
-  where
-    go : (b : Bool) → eqb (length p.1) 0 ≡ b → cond b (Some p.0) None ≡ Some t → Some p ≡ Some (t, [])
-    go true e k =
-        let none : p.1 ≡ [] = nil_from_length p.1 (eqb-true _ _ e) in
-        let same : p.0 ≡ t = same_Some p.0 t k in
-        λ i. Some (same i, none i)
-    go false e k = absurd (none-some t k)
+module _ (nodes rows : ℕ) (xs : List ℤ) (t : Tree) where
+  pub whole_spelled : Spells nodes rows xs t → whole (read_tree 12 nodes rows xs) ≡ Some t
+  whole_spelled s = ap (λ ys. whole (read_tree 12 nodes rows ys)) (sym (append-nil (spelled t) ∙ s.is)) ∙ ap whole (complete 12 nodes rows t [] s.fits)
 
-pub no_whole : (o : Option (Tree × List ℤ)) → ends (rest_of o) ≡ false → whole o ≡ None
-no_whole None h = refl
-no_whole (Some p) h = ap (λ b. cond b (Some p.0) None) h
+  pub spells_it : whole (read_tree 12 nodes rows xs) ≡ Some t → Spells nodes rows xs t
+  spells_it e = let s = sound 12 nodes rows xs (t, []) (whole_tree _ t e) in record { fits = s.0; is = sym (append-nil (spelled t)) ∙ s.1 }
 
-module _ (nodes rows : ℕ) (xs : List ℤ) where
-  pub whole_spelled : (t : Tree) → Spells nodes rows xs t → whole (read_tree 12 nodes rows xs) ≡ Some t
-  whole_spelled t s = ap (λ ys. whole (read_tree 12 nodes rows ys)) (sym (append-nil (spelled t) ∙ s.is)) ∙ ap whole (complete 12 nodes rows t [] s.fits)
+-- what an answer to the question of the shape tells; `shape` is that of a tree that may prove a claim about the task
+module _ (task : Task) (shape : Shape) (e : record { nodes : shape.nodes ≡ node_count task.edges; rows : shape.rows ≡ length task.rows; splits : shape.splits ≡ 12 }) (xs : List ℤ)
+    {yes! : Bool} (is : yes! ≡ ends (rest_of (read_tree shape.splits shape.nodes shape.rows xs))) where
+  asked : yes! ≡ ends (rest_of (read_tree 12 (node_count task.edges) (length task.rows) xs))
+  asked = simp (e.splits, e.nodes, e.rows) at is
 
-  pub spells_it : (t : Tree) → read_tree 12 nodes rows xs ≡ Some (t, []) → Spells nodes rows xs t
-  spells_it t e = let s = sound 12 nodes rows xs (t, []) e in record { fits = s.0; is = sym (append-nil (spelled t)) ∙ s.1 }
+  pub is_tree : yes! ≡ true → (t : Tree) × Spells shape.nodes shape.rows xs t × (whole (read_tree 12 (node_count task.edges) (length task.rows) xs) ≡ Some t)
+  is_tree h = go (read_tree 12 (node_count task.edges) (length task.rows) xs) refl (sym asked ∙ h)
+    where
+      go : (o : Option (Tree × List ℤ)) → read_tree 12 (node_count task.edges) (length task.rows) xs ≡ o → ends (rest_of o) ≡ true → (t : Tree) × Spells shape.nodes shape.rows xs t × (whole (read_tree 12 (node_count task.edges) (length task.rows) xs) ≡ Some t)
+      go None o k = cc
+      go (Some p) o k =
+          let same = ap whole o ∙ cond-true (eqb (length p.1) 0) (Some p.0) None k in
+          (p.0, rw (e.nodes, e.rows) (spells_it (node_count task.edges) (length task.rows) xs p.0 same), same)
 
--- what a yes to the question of the shape gives
-pub record IsTree (splits nodes rows : ℕ) (xs : List ℤ) : Type 0 where
-  pub of : Tree
-  pub read : read_tree splits nodes rows xs ≡ Some (of, [])
-  pub fits : Fits splits nodes rows of
-  pub is : spelled of ≡ xs
-
-pub is_tree : (k n r : ℕ) (xs : List ℤ) {b : Bool} → b ≡ ends (rest_of (read_tree k n r xs)) → b ≡ true → IsTree k n r xs
-is_tree k n r xs e yes! =
-    let w = whole_is (read_tree k n r xs) (sym e ∙ yes!) in
-    let s = sound k n r xs (w.0, []) w.1 in
-    record { of = w.0; read = w.1; fits = s.0; is = sym (append-nil (spelled w.0)) ∙ s.1 }
-
--- the first number of all has the place 0
-pub at_front : (edges n : ℕ) (z top : ℤ) (t : Tree) → z ≡ top → range_answer 0 (tests edges top t) ≡ range_answer (n - n) (tests edges z t)
-at_front edges n z top t e = let none : n - n ≡ 0 = omega arith in sym (λ i. range_answer (none i) (tests edges (e i) t))
-
-pub fits_splits : {k l : ℕ} → k ≡ l → (n r : ℕ) (t : Tree) → Fits k n r t → Fits l n r t
-fits_splits p n r t f = subst (λ (i : ℕ). Fits i n r t) p f
-
--- the shape of a tree that may prove a claim about the task
-module _ (task : Task) {k n r : ℕ} (o : k ≡ 12) (p : n ≡ node_count task.edges) (q : r ≡ length task.rows) where
-  module _ (le : Pair → Pair → Bool) (unit : Pair) (c : Pair) (top : ℤ) (xs : List ℤ) where
-    answer_is : list_answer le unit task c top xs ≡ found_answer le unit task c top (whole (read_tree k n r xs))
-    answer_is = sym (λ i. found_answer le unit task c top (whole (read_tree (o i) (p i) (q i) xs)))
-
-    pub none_answer : ends (rest_of (read_tree k n r xs)) ≡ false → list_answer le unit task c top xs ≡ Err NotOneTree
-    none_answer h = answer_is ∙ ap (found_answer le unit task c top) (no_whole (read_tree k n r xs) h)
-
-    pub some_answer : (t : Tree) → read_tree k n r xs ≡ Some (t, []) → list_answer le unit task c top xs ≡ before (range_answer 0 (tests (length task.edges) top t)) (tree_answer le unit task c t)
-    some_answer t e = answer_is ∙ ap (λ o. found_answer le unit task c top (whole o)) e
+  pub no_tree : yes! ≡ false → whole (read_tree 12 (node_count task.edges) (length task.rows) xs) ≡ None
+  no_tree h = go (read_tree 12 (node_count task.edges) (length task.rows) xs) (sym asked ∙ h)
+    where
+      go : (o : Option (Tree × List ℤ)) → ends (rest_of o) ≡ false → whole o ≡ None
+      go None k = refl
+      go (Some p) k = cond-false (eqb (length p.1) 0) (Some p.0) None k

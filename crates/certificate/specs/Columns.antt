@@ -2,8 +2,8 @@
 use Rattle.std.specs.Prelude.{ℕ, zero as none, suc, List, ◌++◌, map, ℤ, pos, slice_index_or}
 use Rattle.price.specs.Pairs.{Pair, zero, ◌⊕◌, times}
 use Rattle.task.specs.Rows.{Row, coefficient}
-use Rattle.certificate.specs.declared.cases.Column.{Column}
-use Rattle.certificate.specs.declared.cases.Column.TheVariants.{Edge, Limit}
+use Rattle.certificate.specs.declared.leaf.Column.{Column}
+use Rattle.certificate.specs.declared.leaf.Column.TheVariants.{Edge, Limit}
 use Rattle.certificate.specs.declared.branches.Branch as branches
 use Rattle.certificate.specs.Lines.{limit_of}
 use Rattle.certificate.specs.Splits.{Branch, path_line, branch_of}

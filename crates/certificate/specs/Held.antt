@@ -1,16 +1,15 @@
 -- What the records and lists of the code hold. To compute with.
-use Rattle.std.specs.Prelude.{ℕ, zero, suc, ◌+◌, Bool, true, false, List, [], ◌∷◌, map, length, ℤ, Some, None, Ok, Err, Option, Result, ◌==◌}
+use Rattle.std.specs.Prelude.{ℕ, zero, suc, Bool, true, false, List, [], ◌∷◌, map, length, ℤ, Some, None, Option, ◌==◌}
 use Rattle.std.specs.Borrow.{Bor}
-use Rattle.price.specs.declared.refusals.Refusal.{Refusal}
 use Rattle.task.specs.declared.rows.Relation.{Relation}
 use Rattle.task.specs.declared.rows.Relation.TheVariants.{Below, AtMost, Equal}
 use Rattle.task.specs.Rows.{Row}
-use Rattle.certificate.specs.declared.cases.Leaf.{Leaf}
+use Rattle.certificate.specs.declared.leaf.Leaf.{Leaf}
 use Rattle.certificate.specs.declared.reading.Record.{Record}
 use Rattle.certificate.specs.declared.reading.Record.TheVariants as code
 use Rattle.certificate.specs.Lines as lines
 use Rattle.certificate.specs.Splits.{lines_at, branch_of}
-use Rattle.certificate.specs.Tasks.{Answer, task_of}
+use Rattle.certificate.specs.Tasks.{task_of}
 use Rattle.certificate.specs.Trees.{Tree, TreeRecord, leaf_record, split_record}
 
 abbrev pub held : Record → TreeRecord
@@ -25,11 +24,6 @@ abbrev pub list_held : Option (Bor (List ℤ)) → Option (List ℤ)
 list_held None = None
 list_held (Some r) = Some r.now
 
--- how many numbers a record has
-abbrev pub long : TreeRecord → ℕ
-long (leaf_record scale potentials multipliers) = 2 + (length potentials + length multipliers)
-long (split_record edge most) = 3
-
 -- the list behind a tree that was read
 abbrev pub rest_of : Option (Tree × List ℤ) → Option (List ℤ)
 rest_of None = None
@@ -39,15 +33,6 @@ rest_of (Some p) = Some p.1
 abbrev pub ends : Option (List ℤ) → Bool
 ends None = false
 ends (Some xs) = length xs == 0
-
--- the list behind a tree that passes
-abbrev pub behind : Answer → List ℤ → Result (List ℤ) Refusal
-behind (Ok _) ys = Ok ys
-behind (Err refusal) ys = Err refusal
-
-abbrev pub rest_held : Result (Bor (List ℤ)) Refusal → Result (List ℤ) Refusal
-rest_held (Ok r) = Ok r.now
-rest_held (Err refusal) = Err refusal
 
 abbrev pub leaf_held : Leaf → lines.Leaf
 leaf_held l = record { scale = l.scale; potentials = lines.pairs l.potentials.now; multipliers = lines.pairs l.multipliers.now }

@@ -2,6 +2,7 @@
 use Rattle.std.specs.Prelude.{ℕ, Bool, true, List, pos}
 use Rattle.price.specs.Laws.{cheaper}
 use Rattle.price.specs.Pairs.{Pair, zero, ◌⊕◌, times}
+use Rattle.price.specs.declared.senses.Sense.{Sense}
 use Rattle.task.specs.declared.edges.Edge.{Edge}
 use Rattle.task.specs.declared.rows.Relation.{Relation}
 use Rattle.task.specs.declared.rows.Relation.TheVariants.{Below, AtMost, Equal}
@@ -20,9 +21,9 @@ module _ (le : Pair → Pair → Bool) where
   abbrev pub row_ok : Leaf → ℕ → Line → Bool
   row_ok l i r = sign_ok r.relation (multiplier l i)
 
-  -- D × the price of edge x is no dearer than its allowance
-  abbrev pub edge_ok : List Line → Leaf → ℕ → Edge → Bool
-  edge_ok lines l x e = le (times (pos l.scale) (edge_price e)) (allowance lines l x e)
+  -- D × the price of edge x that counts is no dearer than its allowance
+  abbrev pub edge_ok : Sense → List Line → Leaf → ℕ → Edge → Bool
+  edge_ok sense lines l x e = le (times (pos l.scale) (edge_price sense e)) (allowance lines l x e)
 
 module _ (le : Pair → Pair → Bool) (unit : Pair) (task : Task) (c : Pair) where
   -- the bound is cheaper than D × (C + unit), which is (0, 0) where D is 0

@@ -3,7 +3,7 @@ pub mod Trees
 pub mod Lines
 pub mod LeafTests
 pub mod RangeTests
-pub mod Judged
+pub mod TreeJudged
 pub mod Soundness
 pub mod Reading
 pub mod Verdicts
@@ -11,3 +11,4 @@ pub mod Splits
 pub mod Columns
 pub mod Held
 pub mod Ready
+pub mod Ahead

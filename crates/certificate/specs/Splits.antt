@@ -36,8 +36,8 @@ onward (t ∷ ts) = cond (unfinished ts) (t ∷ onward ts) (cond t.second [] (se
 
 -- what the types of the code mean
 abbrev pub branch_of : declared.Branch → Branch
-branch_of (AtMost edge turns) = first_of edge turns.count
-branch_of (MoreThan edge turns) = second_of edge turns.count
+branch_of (AtMost edge most) = first_of edge most.count
+branch_of (MoreThan edge most) = second_of edge most.count
 
 abbrev pub branches_of : Path → List Branch
 branches_of p = map branch_of p.branches.items

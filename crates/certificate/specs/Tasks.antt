@@ -1,13 +1,13 @@
 -- What is judged: the edges and the rows of a task, its start and its end; and what is answered.
 use Rattle.std.specs.Prelude.{ℕ, List, Result}
-use Rattle.price.specs.declared.refusals.Refusal.{Refusal}
+use Rattle.certificate.specs.declared.faults.TreeFault.{TreeFault}
 use Rattle.task.specs.declared.edges.Edge.{Edge}
 use Rattle.task.specs.Rows.{Row}
 use Rattle.task.specs.declared.tasks.Task as declared
 
 -- yes, or the question that failed
 abbrev pub Answer : Type 0
-Answer = Result (Unit {0}) Refusal
+Answer = Result (Unit {0}) TreeFault
 
 pub record Task : Type 0 where
   pub edges : List Edge

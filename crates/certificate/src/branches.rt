@@ -7,9 +7,9 @@ use arrayvec::ArrayVec;
 // No leaf stands under more splits than this.
 pub(crate) const MAX_SPLITS: usize = 12;
 
-// As many turns as a split may name.
+// The most turns of its edge in the first tree of a split.
 #[derive(Clone, Copy)]
-pub(crate) struct Turns {
+pub(crate) struct Most {
     pub(crate) count: u32,
     ghost few: { count ≤ 1048575 },
 }
@@ -17,8 +17,8 @@ pub(crate) struct Turns {
 // The row that a branch adds: at most so many turns of an edge in the first tree of a split, more of them in the second.
 #[derive(Clone, Copy)]
 pub(crate) enum Branch {
-    AtMost { edge: usize, turns: Turns },
-    MoreThan { edge: usize, turns: Turns },
+    AtMost { edge: usize, most: Most },
+    MoreThan { edge: usize, most: Most },
 }
 
 // What stands in the unused places of a path table.
@@ -26,7 +26,7 @@ impl Default for Branch {
     fn default() -> Branch {
         Branch::AtMost {
             edge: 0,
-            turns: Turns { count: 0 },
+            most: Most { count: 0 },
         }
     }
 }

@@ -2,7 +2,7 @@
 ghost use Rattle.std.specs.Prelude.{◌≡◌, ◌<◌, ◌≤◌, [], ◌∷◌, ◌++◌, length, unsigned_abs};
 ghost use Rattle.certificate.specs.Splits.{branches_of, first_of, onward};
 
-use crate::branches::{Branch, Path, Turns};
+use crate::branches::{Branch, Most, Path};
 use arrayvec::ArrayVec;
 
 impl Path {
@@ -36,10 +36,10 @@ impl Path {
     {
         // a cast, since Rust has no `From<u32>` for `usize`
         let edge = edge.unsigned_abs() as usize;
-        let turns = Turns {
+        let most = Most {
             count: most.unsigned_abs(),
         };
-        self.branches.push(Branch::AtMost { edge, turns });
+        self.branches.push(Branch::AtMost { edge, most });
     }
 
     // Behind a leaf, the last split in its first tree goes on to its second; those below it are done.
@@ -47,8 +47,8 @@ impl Path {
         ensures { branches_of self.new ≡ onward (branches_of self.old) }
     {
         while let Some(last) = self.branches.pop() {
-            if let Branch::AtMost { edge, turns } = last {
-                self.branches.push(Branch::MoreThan { edge, turns });
+            if let Branch::AtMost { edge, most } = last {
+                self.branches.push(Branch::MoreThan { edge, most });
                 return;
             }
         }

@@ -4,7 +4,7 @@ ghost use Rattle.price.specs.Pairs.{times};
 ghost use Rattle.price.specs.Ranges.{Part, Within};
 ghost use Rattle.task.specs.Turns.{edge_price};
 
-use crate::cases::Leaf;
+use crate::leaf::Leaf;
 use price::Price;
 use task::Edge;
 
@@ -37,10 +37,11 @@ impl Leaf<'_> {
         price_of(self.scaled(cycles), self.scaled(reads))
     }
 
-    // The price of an edge, times the scale.
+    // The price of an edge that counts, times the scale.
     pub(crate) fn scaled_price(&self, edge: &Edge) -> Price
-        ensures { result ≡ times (pos self.now.scale) (edge_price edge.now) }
+        ensures { result ≡ times (pos self.now.scale) (edge_price self.now.claim.sense edge.now) }
     {
-        self.multiple(i64::from(edge.cycles), i64::from(edge.reads))
+        let price = edge.price(self.claim.sense);
+        self.multiple(i64::from(price.cycles), i64::from(price.reads))
     }
 }

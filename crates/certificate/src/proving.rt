@@ -1,18 +1,18 @@
 // The two calls: a tree that proves a price, and a tree that proves that there is no run.
 ghost use Rattle.std.specs.Prelude.{◌≡◌, ◌^◌, ◌&&◌, pos, ◌≤ℤ◌};
-ghost use Rattle.certificate.specs.Judged.{Judged};
+ghost use Rattle.certificate.specs.TreeJudged.{TreeJudged, VoidJudged};
 ghost use Rattle.certificate.specs.Soundness.{PriceProved, VoidProved};
 ghost use Rattle.certificate.specs.Tasks.{task_of};
 ghost use Rattle.certificate.specs.Verdicts.{list_answer, price_answer, task_answer, void_answer};
-ghost use Rattle.price.specs.Pairs.{zero};
 ghost use Rattle.task.specs.Coefficients.{in_range};
 
 use crate::claims::Claim;
+use crate::faults::TreeFault;
 use crate::prices::price_of;
 use crate::ranges::{Limits, ask_ranges};
 use crate::shapes::is_one_tree;
 use crate::walking::judge_list;
-use price::{Price, Refusal, Tariff};
+use price::{Price, Sense, Tariff};
 use task::{MAX_EDGES, MAX_ROWS, Task};
 
 const MAX_SCALE: i32 = 1_000;
@@ -34,16 +34,15 @@ fn judge_tree<T: Tariff>(
     claim: Claim<'_>,
     top: i32,
     list: &[i32],
-) -> Result<(), Refusal>
+) -> Result<(), TreeFault>
     requires { top ≤ℤ pos 1000 }
-    ensures { result ≡ list_answer (T.le tariff.now) (T.unit tariff.now) (task_of claim.entry.task.now) claim.entry.price.now top list.now }
+    ensures { result ≡ list_answer (T.le tariff.now) (T.unit tariff.now) (task_of claim.entry.task.now) claim.entry.sense claim.entry.price.now top list.now }
 {
     let shape = claim.shape();
     if !is_one_tree(list, shape) {
-        return Err(Refusal::NotOneTree);
+        return Err(TreeFault::NotOneTree);
     }
     let limits = Limits {
-        whole: list.len(),
         edges: claim.task.edges.len(),
         top,
     };
@@ -55,26 +54,28 @@ fn judge_tree<T: Tariff>(
 fn judge<T: Tariff>(
     tariff: &T,
     task: &Task<'_>,
+    sense: Sense,
     price: Price,
     top: i32,
     list: &[i32],
-) -> Result<(), Refusal>
+) -> Result<(), TreeFault>
     requires { top ≤ℤ pos 1000 }
-    ensures { result ≡ task_answer (T.le tariff.now) (T.unit tariff.now) (task_of task.now) price top list.now }
+    ensures { result ≡ task_answer (T.le tariff.now) (T.unit tariff.now) (task_of task.now) sense price top list.now }
 {
     if task.edges.len() > MAX_EDGES {
-        return Err(Refusal::EdgesFull);
+        return Err(TreeFault::TooManyEdges);
     }
     if task.rows.len() > MAX_ROWS {
-        return Err(Refusal::RowsFull);
+        return Err(TreeFault::TooManyRows);
     }
     if !is_claimable(price) {
-        return Err(Refusal::PriceRange);
+        return Err(TreeFault::PriceRange);
     }
     judge_tree(
         tariff,
         Claim {
             task,
+            sense,
             price: &price,
         },
         top,
@@ -86,21 +87,22 @@ fn judge<T: Tariff>(
 pub fn prove_price<T: Tariff>(
     tariff: &T,
     task: &Task<'_>,
+    sense: Sense,
     claimed: Price,
     tree: &[i32],
-) -> Result<(), Refusal>
-    ensures answer { result ≡ price_answer (T.le tariff.now) (T.unit tariff.now) (task_of task.now) claimed tree.now }
-    ensures means { Judged (T.le tariff.now) (T.unit tariff.now) (task_of task.now) claimed (pos 1000) tree.now result }
-    ensures sound { PriceProved (T.le tariff.now) (task_of task.now) claimed result }
+) -> Result<(), TreeFault>
+    ensures answer { result ≡ price_answer (T.le tariff.now) (T.unit tariff.now) (task_of task.now) sense claimed tree.now }
+    ensures means { TreeJudged (T.le tariff.now) (T.unit tariff.now) (task_of task.now) sense claimed (pos 1000) tree.now result }
+    ensures sound { PriceProved (T.le tariff.now) (task_of task.now) sense claimed result }
 {
-    judge(tariff, task, claimed, MAX_SCALE, tree)
+    judge(tariff, task, sense, claimed, MAX_SCALE, tree)
 }
 
 /// Judges a tree that is to prove that no run keeps every row; D is 0.
-pub fn prove_void<T: Tariff>(tariff: &T, task: &Task<'_>, tree: &[i32]) -> Result<(), Refusal>
+pub fn prove_void<T: Tariff>(tariff: &T, task: &Task<'_>, tree: &[i32]) -> Result<(), TreeFault>
     ensures answer { result ≡ void_answer (T.le tariff.now) (T.unit tariff.now) (task_of task.now) tree.now }
-    ensures means { Judged (T.le tariff.now) (T.unit tariff.now) (task_of task.now) zero (pos 0) tree.now result }
+    ensures means { VoidJudged (T.le tariff.now) (T.unit tariff.now) (task_of task.now) tree.now result }
     ensures sound { VoidProved (task_of task.now) result }
 {
-    judge(tariff, task, price_of(0, 0), 0, tree)
+    judge(tariff, task, Sense::Longest, price_of(0, 0), 0, tree)
 }

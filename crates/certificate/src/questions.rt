@@ -6,7 +6,7 @@ ghost use Rattle.certificate.specs.Lines.{no_line};
 ghost use Rattle.certificate.specs.Tasks.{task_of};
 ghost use Rattle.task.specs.Graph.{edge_at};
 
-use crate::cases::Leaf;
+use crate::leaf::Leaf;
 use crate::prices::price_of;
 use price::Tariff;
 use task::{Relation, Row};
@@ -38,7 +38,7 @@ impl Leaf<'_> {
     // Whether D times the edge's price is no dearer than its allowance.
     pub(crate) fn edge_passes<T: Tariff>(&self, tariff: &T, i: usize) -> bool
         requires { i < length self.now.claim.task.now.edges.now }
-        ensures { result ≡ edge_ok (T.le tariff.now) (lines_of self.now) (leaf_held self.now) i (edge_at self.now.claim.task.now.edges.now i) }
+        ensures { result ≡ edge_ok (T.le tariff.now) self.now.claim.sense (lines_of self.now) (leaf_held self.now) i (edge_at self.now.claim.task.now.edges.now i) }
     {
         let price = self.scaled_price(&self.claim.task.edges[i]);
         tariff.compare(price, self.allowance(i))

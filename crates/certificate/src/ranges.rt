@@ -1,16 +1,17 @@
 // Are the numbers of a tree in range?
 // Each function bounds its own place by what it reads from there on.
-ghost use Rattle.std.specs.Prelude.{◌≡◌, ◌+◌, ◌-◌, ◌^◌, ◌<◌, ◌≤◌, List, ◌++◌, length, position, ℤ, pos};
-ghost use Rattle.certificate.specs.Held.{behind, held, long, rest_held};
+ghost use Rattle.std.specs.Prelude.{◌≡◌, ◌+◌, ◌^◌, ◌<◌, length, position, pos, ◌≤ℤ◌};
+ghost use Rattle.certificate.specs.Ahead.{numbers};
+ghost use Rattle.certificate.specs.Held.{held};
 ghost use Rattle.certificate.specs.RangeTests.{exists, far, inside, near, record_tests, tests};
-ghost use Rattle.certificate.specs.Ready.{Front};
-ghost use Rattle.certificate.specs.Trees.{Fits, Tree, leaf_record, spelled, split_record};
+ghost use Rattle.certificate.specs.Trees.{Spells, Tree, leaf_record, split_record};
 ghost use Rattle.certificate.specs.Verdicts.{range_answer};
 ghost use Rattle.task.specs.Coefficients.{in_range};
 
-use crate::reading::{Record, read_record};
+use crate::faults::TreeFault;
+use crate::reading::Record;
+use crate::records::Records;
 use crate::shapes::Shape;
-use price::Refusal;
 
 // The largest potential and multiplier, 2^26; the smallest is its negative.
 const MAX_NUMBER: i32 = 67_108_864;
@@ -18,13 +19,12 @@ const MAX_NUMBER: i32 = 67_108_864;
 // The most turns of an edge, the limit of all turns, here among the signed numbers of a tree.
 const MAX_MOST: i32 = 1_048_575;
 
-// What a tree is asked for: one of so many edges, and a D of at most `top`; its list has `whole` numbers.
+// What a tree is asked for: one of so many edges, and a D of at most `top`.
 #[derive(Clone, Copy)]
 pub(crate) struct Limits {
-    pub(crate) whole: usize,
     pub(crate) edges: usize,
     pub(crate) top: i32,
-    ghost counted: { whole < 2 ^ 63 },
+    ghost few: { top ≤ℤ pos 1000 },
 }
 
 // Is there an edge of this number?
@@ -55,12 +55,12 @@ fn first_far(list: &[i32]) -> Option<usize>
 }
 
 // Asks the potentials or the multipliers of a leaf, which stand from `place` on.
-fn ask_numbers(list: &[i32], place: usize) -> Result<(), Refusal>
+fn ask_numbers(list: &[i32], place: usize) -> Result<(), TreeFault>
     requires { place + length list.now < 2 ^ 63 }
     ensures { result ≡ range_answer place (near list.now) }
 {
     match first_far(list) {
-        Some(i) => Err(Refusal::TreeRange { place: place + i }),
+        Some(i) => Err(TreeFault::Range { place: place + i }),
         None => Ok(()),
     }
 }
@@ -72,34 +72,34 @@ fn ask_leaf(
     scale: i32,
     potentials: &[i32],
     multipliers: &[i32],
-) -> Result<(), Refusal>
+) -> Result<(), TreeFault>
     requires { place + (2 + (length potentials.now + length multipliers.now)) < 2 ^ 63 }
     ensures { result ≡ range_answer place (record_tests 0 top (leaf_record scale potentials.now multipliers.now)) }
 {
     if !is_scale(top, scale) {
-        return Err(Refusal::TreeRange { place: place + 1 });
+        return Err(TreeFault::Range { place: place + 1 });
     }
     ask_numbers(potentials, place + 2)?;
     ask_numbers(multipliers, place + 2 + potentials.len())
 }
 
 // Asks a split that begins at `place`.
-fn ask_split(place: usize, edges: usize, edge: i32, most: i32) -> Result<(), Refusal>
+fn ask_split(place: usize, edges: usize, edge: i32, most: i32) -> Result<(), TreeFault>
     requires { place + 3 < 2 ^ 63 }
     ensures { result ≡ range_answer place (record_tests edges (pos 0) (split_record edge most)) }
 {
     if !is_edge(edges, edge) {
-        return Err(Refusal::TreeRange { place: place + 1 });
+        return Err(TreeFault::Range { place: place + 1 });
     }
     if !(0..=MAX_MOST).contains(&most) {
-        return Err(Refusal::TreeRange { place: place + 2 });
+        return Err(TreeFault::Range { place: place + 2 });
     }
     Ok(())
 }
 
 // Asks a record that begins at `place`.
-fn ask_record(read: Record<'_>, place: usize, limits: Limits) -> Result<(), Refusal>
-    requires { place + long (held read) < 2 ^ 63 }
+fn ask_record(read: Record<'_>, place: usize, limits: Limits) -> Result<(), TreeFault>
+    requires { place + length (numbers (held read)) < 2 ^ 63 }
     ensures { result ≡ range_answer place (record_tests limits.edges limits.top (held read.entry)) }
 {
     match read {
@@ -112,28 +112,15 @@ fn ask_record(read: Record<'_>, place: usize, limits: Limits) -> Result<(), Refu
     }
 }
 
-// Asks the tree at the front of what is left of the whole list, and answers the list behind it.
-pub(crate) fn ask_ranges<'a>(
-    list: &'a [i32],
-    limits: Limits,
-    shape: Shape,
-) -> Result<&'a [i32], Refusal>
-    requires place { length list.now ≤ limits.whole }
-    requires spelled { Front shape.splits shape.nodes shape.rows list.now }
-    ensures { (t : Tree) (ys : List ℤ) → Fits shape.splits shape.nodes shape.rows t → spelled t ++ ys ≡ list.now → rest_held result ≡ behind (range_answer (limits.whole - length list.now) (tests limits.edges limits.top t)) ys }
+// Asks the records of a tree's list in their order.
+pub(crate) fn ask_ranges(list: &[i32], limits: Limits, shape: Shape) -> Result<(), TreeFault>
+    requires { (shape.splits ≡ 12) × ((t : Tree) × Spells shape.nodes shape.rows list.now t) }
+    ensures { (t : Tree) → Spells shape.nodes shape.rows list.now t → result ≡ range_answer 0 (tests limits.edges limits.top t) }
 {
-    let Some((record, rest)) = read_record(list, shape) else {
-        return Ok(list);
-    };
-    ask_record(record, limits.whole - list.len(), limits)?;
-    match record {
-        Record::Leaf { .. } => Ok(rest),
-        Record::Split { .. } => {
-            let Some(under) = shape.under_split() else {
-                return Ok(rest);
-            };
-            let second = ask_ranges(rest, limits, under)?;
-            ask_ranges(second, limits, under)
-        }
+    let mut records = Records::new(list, shape);
+    while let Some((record, rest)) = records.front() {
+        ask_record(record, records.place(), limits)?;
+        records.pass(record, rest);
     }
+    Ok(())
 }

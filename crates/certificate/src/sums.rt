@@ -10,7 +10,7 @@ ghost use Rattle.price.specs.Pairs.{times, zero};
 ghost use Rattle.price.specs.Ranges.{Both, Within};
 
 use crate::branches::Branch;
-use crate::cases::{Column, Leaf};
+use crate::leaf::{Column, Leaf};
 use task::{Node, Relation, Row};
 
 // The number at a place, and 0 past the end.
@@ -56,8 +56,8 @@ impl Branch {
             (Branch::MoreThan { edge, .. }, Column::Edge { number, .. }) => -i64::from(
                 number == edge,
             ),
-            (Branch::AtMost { turns, .. }, Column::Limit) => i64::from(turns.count),
-            (Branch::MoreThan { turns, .. }, Column::Limit) => -1 - i64::from(turns.count),
+            (Branch::AtMost { most, .. }, Column::Limit) => i64::from(most.count),
+            (Branch::MoreThan { most, .. }, Column::Limit) => -1 - i64::from(most.count),
         }
     }
 }

@@ -1,19 +1,23 @@
-// The judge of a whole tree: a loop over its list, with a table of the splits on the path.
+// The judge of a whole tree: a loop over the records of its list.
 ghost use Rattle.std.specs.Prelude.{◌≡◌, ◌≤◌, unsigned_abs};
-ghost use Rattle.certificate.specs.Held.{leaf_held, lines_of};
+ghost use Rattle.std.specs.List.{All};
+ghost use Rattle.certificate.specs.Ahead.{records};
+ghost use Rattle.certificate.specs.Held.{held, leaf_held, lines_of};
 ghost use Rattle.certificate.specs.Lines.{leaf_of};
-ghost use Rattle.certificate.specs.Ready.{Judgeable, Small};
+ghost use Rattle.certificate.specs.Ready.{Bounded, Small};
 ghost use Rattle.certificate.specs.Splits.{branches_of, lines_at};
 ghost use Rattle.certificate.specs.Tasks.{task_of};
-ghost use Rattle.certificate.specs.Trees.{Fits, Tree, spelled};
-ghost use Rattle.certificate.specs.Verdicts.{tree_answer};
+ghost use Rattle.certificate.specs.Trees.{Spells, Tree};
+ghost use Rattle.certificate.specs.Verdicts.{record_answer, tree_answer};
 
 use crate::branches::Path;
-use crate::cases::Leaf;
 use crate::claims::Claim;
-use crate::reading::{Record, read_record};
+use crate::faults::TreeFault;
+use crate::leaf::Leaf;
+use crate::reading::Record;
+use crate::records::Records;
 use crate::shapes::Shape;
-use price::{Refusal, Tariff};
+use price::Tariff;
 
 impl<'a> Claim<'a> {
     // The leaf that a record tells, under the branches of a path.
@@ -26,7 +30,7 @@ impl<'a> Claim<'a> {
         multipliers: &'a [i32],
     ) -> Leaf<'a>
         requires { (unsigned_abs scale ≤ 1000) × Small potentials.now × Small multipliers.now }
-        ensures of { (task_of result.claim.task.now ≡ task_of self.entry.task.now) × (result.claim.price.now ≡ self.entry.price.now) × (result.number ≡ number) }
+        ensures of { (task_of result.claim.task.now ≡ task_of self.entry.task.now) × (result.claim.sense ≡ self.entry.sense) × (result.claim.price.now ≡ self.entry.price.now) × (result.number ≡ number) }
         ensures lines { lines_of result ≡ lines_at (task_of self.entry.task.now) (branches_of path.now) }
         ensures held { leaf_held result ≡ leaf_of scale potentials.now multipliers.now }
     {
@@ -39,6 +43,29 @@ impl<'a> Claim<'a> {
             multipliers,
         }
     }
+
+    // Judges a record, if it is a leaf.
+    fn judge_record<T: Tariff>(
+        self,
+        tariff: &T,
+        read: Record<'_>,
+        path: &Path,
+        number: usize,
+    ) -> Result<(), TreeFault>
+        requires { Bounded (held read) }
+        ensures { result ≡ record_answer (T.le tariff.now) (T.unit tariff.now) (task_of self.entry.task.now) self.entry.sense self.entry.price.now (lines_at (task_of self.entry.task.now) (branches_of path.now)) (held read.entry) number }
+    {
+        match read {
+            Record::Leaf {
+                scale,
+                potentials,
+                multipliers,
+            } => self
+                .leaf(path, number, scale, potentials, multipliers)
+                .judge(tariff),
+            Record::Split { .. } => Ok(()),
+        }
+    }
 }
 
 // The first question that fails, leaf by leaf in list order.
@@ -47,29 +74,14 @@ pub(crate) fn judge_list<T: Tariff>(
     claim: Claim<'_>,
     shape: Shape,
     list: &[i32],
-) -> Result<(), Refusal>
-    requires { (shape.splits ≡ 12) × Judgeable shape.nodes shape.rows list.now }
-    ensures { (t : Tree) → Fits 12 shape.nodes shape.rows t → spelled t ≡ list.now → result ≡ tree_answer (T.le tariff.now) (T.unit tariff.now) (task_of claim.entry.task.now) claim.entry.price.now t }
+) -> Result<(), TreeFault>
+    requires { (shape.splits ≡ 12) × ((t : Tree) × Spells shape.nodes shape.rows list.now t × All Bounded (records t)) }
+    ensures { (t : Tree) → Spells shape.nodes shape.rows list.now t → All Bounded (records t) → result ≡ tree_answer (T.le tariff.now) (T.unit tariff.now) (task_of claim.entry.task.now) claim.entry.sense claim.entry.price.now t }
 {
-    let mut path = Path::new();
-    let mut rest = list;
-    // no iterator counts the leaves: splits stand between them
-    let mut count = 0;
-    while let Some((record, next)) = read_record(rest, shape.under(path.depth())) {
-        match record {
-            Record::Split { edge, most } => path.push(edge, most),
-            Record::Leaf {
-                scale,
-                potentials,
-                multipliers,
-            } => {
-                let leaf = claim.leaf(&path, count, scale, potentials, multipliers);
-                leaf.judge(tariff)?;
-                path.onward();
-                count += 1;
-            }
-        }
-        rest = next;
+    let mut records = Records::new(list, shape);
+    while let Some((record, rest)) = records.front() {
+        claim.judge_record(tariff, record, records.path(), records.leaves())?;
+        records.pass(record, rest);
     }
     Ok(())
 }

@@ -12,3 +12,4 @@ pub mod Checks
 mod PriceSums
 pub mod LibraryCalls
 pub mod Smalls
+pub mod Made

@@ -1,5 +1,6 @@
 -- The questions about a new row.
 use Rattle.std.specs.Prelude.{zero, suc, ◌-◌, ◌&&◌, List, ◌++◌, length, replicate, ℤ, pos, Some, None, Ok, Err, Option, Result, nat_le}
+use Rattle.std.specs.Option.{option_map}
 use Rattle.price.specs.Questions.{ask}
 use Rattle.task.specs.declared.faults.RowFault.{RowFault}
 use Rattle.task.specs.declared.faults.RowFault.TheVariants.{Relation as NoRelation, Numbers}
@@ -27,16 +28,14 @@ related n = or_refused (relation_of n)
 abbrev pub padded : List ℤ → List ℤ
 padded cs = cs ++ replicate (64 - length cs) (pos 0)
 
--- the row of a relation, k and a list of coefficients
-abbrev pub row_of : Relation → ℤ → List ℤ → Row
-row_of relation k cs = record { relation = relation; k = k; coefficients = padded cs }
+-- the row of these numbers, if the first is that of a relation
+abbrev pub row_of : ℤ → ℤ → List ℤ → Option Row
+row_of relation k cs = option_map (λ r. record { relation = r; k = k; coefficients = padded cs }) (relation_of relation)
 
-abbrev row_with : Option Relation → ℤ → List ℤ → Result Row RowFault
-row_with None k cs = Err NoRelation
-row_with (Some relation) k cs =
-    ask (in_range 1048576 k && (nat_le (length cs) 64 && all_small cs)) Numbers
-    (Ok (row_of relation k cs))
+abbrev pub in_ranges : ℤ → List ℤ → Option Row → Result Row RowFault
+in_ranges k cs None = Err NoRelation
+in_ranges k cs (Some row) = ask (in_range 1048576 k && (nat_le (length cs) 64 && all_small cs)) Numbers (Ok row)
 
 -- a row of these numbers, or the question that they fail
 abbrev pub row_made : ℤ → ℤ → List ℤ → Result Row RowFault
-row_made relation k cs = row_with (relation_of relation) k cs
+row_made relation k cs = in_ranges k cs (row_of relation k cs)

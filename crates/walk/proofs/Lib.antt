@@ -1,10 +1,10 @@
 pub mod TurnSums
-pub mod Steps
-pub mod Whole
-pub mod Reach
-pub mod Rule
-pub mod Fewest
-mod Searches
-mod Nearest
-pub mod Tabling
-pub mod Standing
+pub mod ShortestWays
+pub mod TakenEdge
+pub mod FewestStands
+pub mod LawfulSteps
+pub mod LawfulWalks
+pub mod WalkStands
+pub mod WalkAt
+pub mod ExitTables
+pub mod DistancePasses

@@ -2,7 +2,7 @@
 use Rattle.std.specs.Prelude.{◌≡◌, ℕ, suc, ◌<◌, ◌≤◌, ◌⊎◌, ◌↔◌, List, length, Some, slice_index}
 use Rattle.task.specs.declared.edges.Edge.{Edge}
 use Rattle.task.specs.Graph.{tail_of, head_of}
-use Rattle.task.specs.Sound.{leaving, Reaches, Claim}
+use Rattle.task.specs.Sound.{leaving, Reaches, Walkable}
 use Rattle.walk.specs.Rule.{distance, last_exit, next}
 
 -- x is the lowest number of which P holds
@@ -49,4 +49,4 @@ pub record Agrees (es : List Edge) (claimed : List ℕ) (end : ℕ) : Type 0 whe
   pub steps : (left : List ℕ) (v x : ℕ) → 0 < leaving es claimed v → (next es claimed end left v ≡ Some x) ↔ Takes es claimed end left v x
 
 abbrev pub FewestStands : Type 0
-FewestStands = (es : List Edge) (start end : ℕ) (claimed : List ℕ) → Claim es start end claimed → Agrees es claimed end
+FewestStands = (es : List Edge) (start end : ℕ) (claimed : List ℕ) → Walkable es start end claimed → Agrees es claimed end

@@ -3,4 +3,4 @@ pub mod Rule
 pub mod Fewest
 pub mod Theorem
 pub mod Tables
-pub mod Standing
+pub mod WalkAt

@@ -2,7 +2,7 @@
 use Rattle.std.specs.Prelude.{ℕ, List, sum}
 use Rattle.task.specs.declared.edges.Edge.{Edge}
 use Rattle.task.specs.Sealing.{Ends}
-use Rattle.task.specs.Sound.{Claim}
+use Rattle.task.specs.Sound.{Walkable}
 use Rattle.walk.specs.Rule.{last_exit, next}
 use Rattle.walk.specs.Walks.{Chooser, Lawful, walk, Complete, Follows, Begun}
 
@@ -13,9 +13,9 @@ pub record Stands (es : List Edge) (start end : ℕ) (claimed : List ℕ) (choos
 
 -- by any choice that keeps a turn of every last exit for last
 abbrev pub LawfulWalkStands : Type 0
-LawfulWalkStands = (es : List Edge) (start end : ℕ) (claimed : List ℕ) → Ends es start end → Claim es start end claimed →
+LawfulWalkStands = (es : List Edge) (start end : ℕ) (claimed : List ℕ) → Ends es start end → Walkable es start end claimed →
     (choose : Chooser) → Lawful es end (last_exit es claimed end) choose → Stands es start end claimed choose
 
 -- by the rule of step
 abbrev pub WalkStands : Type 0
-WalkStands = (es : List Edge) (start end : ℕ) (claimed : List ℕ) → Ends es start end → Claim es start end claimed → Stands es start end claimed (next es claimed end)
+WalkStands = (es : List Edge) (start end : ℕ) (claimed : List ℕ) → Ends es start end → Walkable es start end claimed → Stands es start end claimed (next es claimed end)

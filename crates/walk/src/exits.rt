@@ -1,7 +1,7 @@
 // The distance of every node to the end, and its last exit.
 ghost use Rattle.std.specs.Prelude.{◌≡◌, ℕ, ◌^◌, ◌<◌, length, slice_index};
 ghost use Rattle.task.specs.Graph.{head_of};
-ghost use Rattle.walk.specs.Tables.{Far, nearer_by, Pass, Tabled, exit_table};
+ghost use Rattle.walk.specs.Tables.{DistancesTabled, nearer_by, DistancePass, ExitsTabled, exit_table};
 
 use task::{Flow, NODES, Node};
 
@@ -15,7 +15,7 @@ struct Distances {
 impl Distances {
     // The distance of every node. Each round is one pass over the edges, and the last one changes nothing.
     fn to_end(flow: Flow<'_>, end: Node) -> Distances
-        ensures { Far flow.entry.edges.now flow.entry.turns.now end result.far }
+        ensures { DistancesTabled flow.entry.edges.now flow.entry.turns.now end result.far }
     {
         let mut far = [flow.edges.len() + 2; NODES];
         far[end.index()] = 0;
@@ -27,7 +27,7 @@ impl Distances {
     // One pass over the edges: lowers the entry of each node from which an edge with turns leads to a lower one, and tells whether there was none.
     // It goes from the last edge to the first: most edges lead to a node that later edges leave, so that few passes are needed.
     fn shorten(&mut self, flow: Flow<'_>) -> bool
-        ensures { Pass flow.entry.edges.now flow.entry.turns.now self.old.far self.new.far result 0 }
+        ensures { DistancePass flow.entry.edges.now flow.entry.turns.now self.old.far self.new.far result 0 }
     {
         let mut settled = true;
         for x in (0..flow.edges.len()).rev() {
@@ -58,7 +58,7 @@ impl Distances {
 /// The last exit of every node: the lowest edge with turns that leads to a node one nearer to the end, or the number of edges, which the rule of step takes as it stands.
 pub fn last_exits(flow: Flow<'_>, end: Node) -> [usize; NODES]
     ensures table { result ≡ exit_table flow.entry.edges.now flow.entry.turns.now end }
-    ensures exits { Tabled flow.entry.edges.now flow.entry.turns.now end result }
+    ensures exits { ExitsTabled flow.entry.edges.now flow.entry.turns.now end result }
 {
     let table = Distances::to_end(flow, end);
     let mut exits = [flow.edges.len(); NODES];

@@ -1,8 +1,8 @@
 // The rule of step.
 ghost use Rattle.std.specs.Prelude.{◌≡◌, ℕ, ◌<◌, List, length, slice_index};
 ghost use Rattle.walk.specs.Rule.{next, spares, taken};
-ghost use Rattle.walk.specs.Standing.{StepsOn};
-ghost use Rattle.walk.specs.Tables.{Tabled};
+ghost use Rattle.walk.specs.WalkAt.{StepsOn};
+ghost use Rattle.walk.specs.Tables.{ExitsTabled};
 
 use task::{Flow, NODES, Node};
 
@@ -28,7 +28,7 @@ fn choose(left: Flow<'_>, last: usize, at: Node, end: Node) -> Option<usize>
 /// The edge that the rule takes at a node, by the table of last exits and the turns left; none at the end.
 pub fn next_edge(left: Flow<'_>, exits: &[usize; NODES], at: Node, end: Node) -> Option<usize>
     ensures answer { result ≡ taken left.entry.edges.now left.entry.turns.now at end (slice_index exits.now at) }
-    ensures rule { (claimed : List ℕ) → Tabled left.entry.edges.now claimed end exits.now → result ≡ next left.entry.edges.now claimed end left.entry.turns.now at }
+    ensures rule { (claimed : List ℕ) → ExitsTabled left.entry.edges.now claimed end exits.now → result ≡ next left.entry.edges.now claimed end left.entry.turns.now at }
     ensures stands { StepsOn left.entry.edges.now exits.now end left.entry.turns.now at result }
 {
     choose(left, exits[at.index()], at, end)

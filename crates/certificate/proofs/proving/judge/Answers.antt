@@ -16,5 +16,5 @@ returns g c =
     let task = task_of c.args.task.now in
     let u = c.ranges.top in
     let same : to_z w32 (of_z w32 c.args.top) ≡ c.args.top = simp to_z-of_z in
-    let within : task_answer le unit task c.args.price c.args.top c.args.list.now ≡ list_answer le unit task c.args.price c.args.top c.args.list.now = simp (es, rs, ps) in
-    c.judge_tree.ensures ∙ ap (λ z. list_answer le unit task c.args.price z c.args.list.now) same ∙ sym within
+    let within : task_answer le unit task c.args.sense c.args.price c.args.top c.args.list.now ≡ list_answer le unit task c.args.sense c.args.price c.args.top c.args.list.now = simp (es, rs, ps) in
+    c.judge_tree.ensures ∙ ap (λ z. list_answer le unit task c.args.sense c.args.price z c.args.list.now) same ∙ sym within

@@ -3,7 +3,7 @@ use Rattle.std.proofs.lemmas.Result.{err_from_is_err_and}
 use Rattle.std.proofs.lemmas.Int.{to_z-of_z}
 use Rattle.certificate.specs.RangeTests.{near, inside}
 use Rattle.certificate.specs.Verdicts.{before, range_answer}
-use Rattle.certificate.proofs.Outside.{leaf_range}
+use Rattle.certificate.proofs.RangeAnswers.{leaf_range}
 use Rattle.certificate.proofs.ranges.ask_leaf.Goals as goal
 
 pub returns-in_err-ask_numbers : goal.returns-in_err-ask_numbers

@@ -1,9 +1,8 @@
-use Rattle.std.proofs.Common.{◌≡◌, ℕ, ◌-◌, ◌<◌, get_or, sym, ap, ◌∙◌, arith}
+use Rattle.std.proofs.Common.{◌-◌, sym, ap, ◌∙◌, arith}
 use Rattle.std.proofs.lemmas.List.{get_or_default}
 use Rattle.task.specs.Graph.{no_edge}
-use Rattle.walk.specs.Rule.{last_exit}
-use Rattle.walk.proofs.Searches.{exits_none, exits_pass, exits_set, exits_all}
-use Rattle.walk.proofs.Tabling.{is_table}
+use Rattle.walk.specs.Tables.{ExitsTabled}
+use Rattle.walk.proofs.ExitTables.{exits_none, exits_pass, exits_set, exits_all, is_table}
 use Rattle.walk.proofs.exits.last_exits.Goals as goal
 
 pub loop-x-init : goal.loop-x-init
@@ -12,8 +11,8 @@ loop-x-init c = exits_none c.args.flow.edges.now c.args.flow.turns.now c.args.en
 pub loop-x-preserved-then-leads_nearer : goal.loop-x-preserved-then-leads_nearer
 loop-x-preserved-then-leads_nearer c =
     let read = get_or_default c.args.flow.edges.now (c.loop-x.x - 1) c.index-flow-x.result no_edge (omega arith) in
-    rw (c.index.ensures.place ∙ ap (λ e. e.tail) read) (exits_set c.args.flow.edges.now c.args.flow.turns.now c.args.end c.to_end-table.result.far c.loop-x.exits (c.loop-x.x - 1) c.loop-x.x
-    c.to_end-table.ensures c.leads_nearer.ensures.low (omega arith) c.loop-x.invariant (omega arith) (sym c.if-leads_nearer.ensures.answer))
+    exits_set c.args.flow.edges.now c.args.flow.turns.now c.args.end c.to_end-table.result.far c.loop-x.exits (c.loop-x.x - 1) c.loop-x.x c.to_end-table.ensures
+    c.leads_nearer.ensures.low (omega arith) c.loop-x.invariant c.index.result (sym (c.index.ensures.place ∙ ap (λ e. e.tail) read)) (omega arith) (sym c.if-leads_nearer.ensures.answer)
 
 pub loop-x-preserved : goal.loop-x-preserved
 loop-x-preserved c = exits_pass c.args.flow.edges.now c.args.flow.turns.now c.args.end c.to_end-table.result.far c.loop-x.exits (c.loop-x.x - 1) c.loop-x.x
@@ -22,6 +21,5 @@ loop-x-preserved c = exits_pass c.args.flow.edges.now c.args.flow.turns.now c.ar
 pub returns : goal.returns
 returns c =
     let es = c.args.flow.edges.now in
-    let ts = c.args.flow.turns.now in
-    let all : (v : ℕ) → v < 32 → get_or c.loop-x.exits v 0 ≡ last_exit es ts c.args.end v = exits_all es ts c.args.end c.loop-x.exits c.loop-x.x (omega arith) c.loop-x.invariant in
-    record { table = is_table es ts c.args.end c.loop-x.exits c.loop-x.invariant.sized all; exits = record { all = all } }
+    let tabled : ExitsTabled es c.args.flow.turns.now c.args.end c.loop-x.exits = exits_all es c.args.flow.turns.now c.args.end c.loop-x.exits c.loop-x.x (omega arith) c.loop-x.invariant in
+    record { table = is_table es c.args.flow.turns.now c.args.end c.loop-x.exits c.loop-x.invariant.sized tabled; exits = tabled }

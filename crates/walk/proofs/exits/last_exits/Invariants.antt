@@ -1,5 +1,5 @@
 -- The exits by the edges from this one on.
-use Rattle.walk.proofs.Searches.{ExitsFrom}
+use Rattle.walk.proofs.ExitTables.{ExitsFrom}
 use Rattle.walk.proofs.exits.last_exits.Given as goal
 
 abbrev pub invariant-loop-x : goal.invariant-loop-x

@@ -1,4 +1,4 @@
-use Rattle.walk.proofs.Rule.{lawful_walk_stands, walk_stands}
+use Rattle.walk.proofs.WalkStands.{lawful_walk_stands, walk_stands}
 use Rattle.walk.proofs.laws.walk_stands.Goals as goal
 
 pub returns : goal.returns

@@ -1,6 +1,6 @@
 use Rattle.std.proofs.Common.{◌≡◌, get_or, ap, ◌∙◌, rules}
 use Rattle.walk.specs.Rule.{next, taken}
-use Rattle.walk.proofs.Standing.{stepped}
+use Rattle.walk.proofs.WalkAt.{stepped}
 use Rattle.walk.proofs.stepping.next_edge.Goals as goal
 
 pub returns-clause-stands : goal.returns-clause-stands

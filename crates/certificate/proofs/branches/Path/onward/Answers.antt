@@ -9,7 +9,7 @@ returns-in-AtMost c =
     let left = c.pop.new.self.items in
     let was = c.in-Some.ensures.items ∙ ap (λ t. left ++ (t ∷ [])) c.in-AtMost.is in
     ap (map branch_of) c.push.ensures.items ∙ map-append branch_of left _
-    ∙ sym (from_first c.loop-last.self.branches.items left c.in-AtMost.edge c.in-AtMost.turns was) ∙ c.loop-last.invariant
+    ∙ sym (from_first c.loop-last.self.branches.items left c.in-AtMost.edge c.in-AtMost.most was) ∙ c.loop-last.invariant
 
 pub loop-last-preserved : goal.loop-last-preserved
 loop-last-preserved c =

@@ -1,15 +1,13 @@
-use Rattle.std.proofs.Common.{false, ◌^◌, ◌<◌, length, subst, rules}
-use Rattle.walk.proofs.Nearest.{only_end, only_end_small, nearing_on, all_far}
+use Rattle.std.proofs.Common.{false, rules}
+use Rattle.walk.proofs.DistancePasses.{only_end, only_end_small, nearing_on, all_far}
 use Rattle.walk.proofs.exits.Distances.to_end.Goals as goal
 
 pub invariant_of-table : goal.invariant_of-table
 invariant_of-table c =
-    let few : length c.args.flow.edges.now < 2 ^ 62 = search rules in
-    let low : c.args.end < 32 = subst (λ v. v < 32) c.index.ensures.place c.index.ensures.low in
-    record { small = rw c.index.ensures.place (only_end_small c.args.flow.edges.now c.args.flow.turns.now c.args.end low few) }
+    record { small = only_end_small c.args.flow.edges.now c.args.flow.turns.now c.args.end c.index.result c.index.ensures.place c.index.ensures.low (search rules) }
 
 pub loop-init : goal.loop-init
-loop-init c = rw c.index.ensures.place (only_end c.args.flow.edges.now c.args.flow.turns.now c.args.end (subst (λ v. v < 32) c.index.ensures.place c.index.ensures.low))
+loop-init c = only_end c.args.flow.edges.now c.args.flow.turns.now c.args.end c.index.result c.index.ensures.place c.index.ensures.low
 
 pub loop-preserved : goal.loop-preserved
 loop-preserved c = rw c.loop-test.true at (nearing_on c.args.flow.edges.now c.args.flow.turns.now c.args.end c.loop.table.far c.shorten.new.self.far false c.shorten.result c.loop.invariant c.shorten.ensures)

@@ -1,6 +1,6 @@
 -- No distance is too low; each pass but the last makes their sum less.
 use Rattle.std.proofs.Common.{false, sum}
-use Rattle.walk.proofs.Nearest.{Nearing}
+use Rattle.walk.proofs.DistancePasses.{Nearing}
 use Rattle.walk.proofs.exits.Distances.to_end.Given as goal
 
 abbrev pub invariant-loop : goal.invariant-loop

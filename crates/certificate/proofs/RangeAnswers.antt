@@ -1,0 +1,41 @@
+-- The first number out of range: of a leaf, and of records one after another.
+use Rattle.std.proofs.Common.{◌≡◌, ℕ, ◌+◌, Bool, true, List, ◌∷◌, ◌++◌, length, ℤ, sym, ap, ◌∙◌, arith, length-append}
+use Rattle.std.specs.List.{flat_map}
+use Rattle.std.proofs.lemmas.List.{length-map}
+use Rattle.task.specs.Coefficients.{in_range}
+use Rattle.certificate.specs.declared.faults.TreeFault.TheVariants.{Range}
+use Rattle.certificate.specs.declared.records.Records.{Records}
+use Rattle.certificate.specs.Ahead.{numbers, place_of}
+use Rattle.certificate.specs.RangeTests.{near, record_tests}
+use Rattle.certificate.specs.Tasks.{Answer}
+use Rattle.certificate.specs.Trees.{TreeRecord, leaf_record, split_record}
+use Rattle.certificate.specs.Verdicts.{before, range_answer}
+use Rattle.certificate.proofs.Firsts.{first_append, FirstOf, first_of}
+
+near_long : (xs : List ℤ) → length (near xs) ≡ length xs
+near_long xs = length-map xs (in_range 67108864)
+
+-- a leaf whose scale has passed
+pub leaf_range : (p : ℕ) (ok : Bool) (ps ms : List ℤ) → ok ≡ true →
+    range_answer (p + 1) (ok ∷ (near ps ++ near ms)) ≡ before (range_answer (p + 2) (near ps)) (range_answer (p + 2 + length ps) (near ms))
+leaf_range p ok ps ms yes! =
+    let e : p + 1 + 1 ≡ p + 2 = omega arith in
+    let l : p + 2 + length (near ps) ≡ p + 2 + length ps = let n = near_long ps in omega arith in
+    ap (λ b. range_answer (p + 1) (b ∷ (near ps ++ near ms))) yes! ∙ ap (λ (k : ℕ). range_answer k (near ps ++ near ms)) e
+    ∙ first_append (λ i b. b) Range (p + 2) (near ps) (near ms) ∙ ap (λ (k : ℕ). before (range_answer (p + 2) (near ps)) (range_answer k (near ms))) l
+
+-- a test for each number
+tests_long : (edges : ℕ) (top : ℤ) (r : TreeRecord) → length (record_tests edges top r) ≡ length (numbers r)
+tests_long edges top (leaf_record d ps ms) = let p = near_long ps in let q = near_long ms in simp length-append (omega arith)
+tests_long edges top (split_record e m) = omega arith
+
+-- the answer is that of the records ahead
+pub record Asking (edges : ℕ) (top : ℤ) (all : Answer) (r : Records) (rs : List TreeRecord) : Type 0 where
+  pub same : all ≡ range_answer (place_of r) (flat_map (record_tests edges top) rs)
+
+-- the record in front, and those behind it
+pub first_asked : {edges : ℕ} {top : ℤ} {all : Answer} {r : Records} {q : TreeRecord} {qs : List TreeRecord} {p : ℕ} → Asking edges top all r (q ∷ qs) → p ≡ place_of r →
+    FirstOf all (range_answer p (record_tests edges top q)) (range_answer (place_of r + length (numbers q)) (flat_map (record_tests edges top) qs))
+first_asked {edges} {top} {all} {r} {q} {qs} {p} a place =
+    first_of all _ _ (a.same ∙ first_append (λ i b. b) Range (place_of r) (record_tests edges top q) (flat_map (record_tests edges top) qs)
+    ∙ (λ i. before (range_answer (sym place i) (record_tests edges top q)) (range_answer (place_of r + tests_long edges top q i) (flat_map (record_tests edges top) qs))))
