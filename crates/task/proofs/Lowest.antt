@@ -1,14 +1,7 @@
 -- The lowest number that passes a test.
-use Rattle.std.proofs.Common.{◌≡◌, ℕ, zero, suc, ◌<◌, ◌≤◌, Bool, true, false, eqb, ap, arith}
-use Rattle.std.proofs.lemmas.Bool.{cond_both, eq-eqb, ne_eqb}
-use Rattle.task.specs.Lowest.{lowest, one_if}
-
--- 1 at the same number, 0 at another
-pub one_if_same : (a b : ℕ) → a ≡ b → one_if (eqb a b) ≡ 1
-one_if_same a b e = ap one_if (eq-eqb a b e)
-
-pub one_if_other : (a b : ℕ) → (a ≡ b → ⊥) → one_if (eqb a b) ≡ 0
-one_if_other a b ne = ap one_if (ne_eqb a b ne)
+use Rattle.std.proofs.Common.{◌≡◌, ℕ, zero, suc, ◌<◌, ◌≤◌, Bool, true, false, arith}
+use Rattle.std.proofs.lemmas.Bool.{cond_both}
+use Rattle.task.specs.Lowest.{lowest}
 
 -- what holds of 0 where it passes, and otherwise of one more than the lowest of the rest, holds of the lowest
 by_zero : (p : ℕ → Bool) (n : ℕ) (P : ℕ → Type 0) → (p zero ≡ true → P zero) → (p zero ≡ false → P (suc (lowest (λ i. p (suc i)) n))) → P (lowest p (suc n))

@@ -1,6 +1,6 @@
 -- The edge and the row that are made of numbers which pass their questions.
-use Rattle.std.proofs.Common.{◌≡◌, ℕ, ◌≤◌, Bool, true, false, ◌&&◌, leb, List, length, ℤ, Some, None, Ok, Err, Option, Result, refl, arith}
-use Rattle.std.proofs.lemmas.Bool.{and_parts, leb-true}
+use Rattle.std.proofs.Common.{◌≡◌, ℕ, ◌≤◌, Bool, true, false, ◌&&◌, leb, List, length, ℤ, Some, None, Ok, Option, Result, refl, arith}
+use Rattle.std.proofs.lemmas.Bool.Decides.{nat_tests}
 use Rattle.price.specs.Questions.{ask}
 use Rattle.task.specs.declared.edges.Edge.{Edge}
 use Rattle.task.specs.declared.edges.NewEdge.{NewEdge}
@@ -24,12 +24,8 @@ pub record Made (n : NewEdge) (e : Edge) : Type 0 where
 pub edge_taken : (n : NewEdge) (e : Edge) → edge_made n ≡ Ok e → Made n e
 edge_taken n e is =
     let first = asked (leb n.tail 31 && (leb n.head 31 && leb n.block 63)) _ _ e is in
-    let second = asked (leb n.cycles 65535 && leb n.reads 65535) _ _ e first.1 in
-    let same : e ≡ edge_of n = cc (second.1) in
-    let nodes = and_parts (leb n.tail 31) (leb n.head 31 && leb n.block 63) first.0 in
-    let low_tail = leb-true n.tail 31 nodes.0 in
-    let low_head = leb-true n.head 31 (and_parts (leb n.head 31) (leb n.block 63) nodes.1).0 in
-    record { is = same; low_tail = rw same low_tail; low_head = rw same low_head }
+    let same : e ≡ edge_of n = cc ((asked (leb n.cycles 65535 && leb n.reads 65535) _ _ e first.1).1) in
+    rw same (record { is = refl; low_tail = grind (arith, nat_tests, first.0); low_head = grind (arith, nat_tests, first.0) })
 
 by_ranges : (k : ℤ) (cs : List ℤ) (o : Option Row) (row : Row) → in_ranges k cs o ≡ Ok row → o ≡ Some row
 by_ranges k cs None row is = cc

@@ -1,5 +1,5 @@
 -- Marks that spread over live edges, pass by pass.
-use Rattle.std.proofs.Common.{◌≡◌, ℕ, ◌+◌, ◌<◌, Bool, true, false, not, ◌⊎◌, List, [], ◌∷◌, length, get_or, set, replicate, refl, ap, ◌∙◌, ⊎_elim, arith, length-set}
+use Rattle.std.proofs.Common.{◌≡◌, ℕ, suc, ◌+◌, ◌<◌, Bool, true, false, not, ◌⊎◌, List, [], ◌∷◌, length, get_or, set, replicate, refl, ap, ◌∙◌, ⊎_elim, arith, length-set}
 use Rattle.std.specs.List.{All}
 use Rattle.std.proofs.lemmas.Bool.Decides.{same_from_decides}
 use Rattle.std.proofs.lemmas.Grind.{get_or-set_at}
@@ -13,7 +13,7 @@ use Rattle.task.specs.Lowest.{one_if}
 use Rattle.task.specs.Sides.{other_side, end_of, is_live, reaches}
 use Rattle.task.specs.Spreading.{Spread, is_marked, unmarked, Pass}
 use Rattle.task.specs.Ways.{Way}
-use Rattle.task.proofs.Reach.{reach_way, way_reach, spread_way}
+use Rattle.task.proofs.Reach.{within_way, way_reach, spread_way}
 
 -- ---- one mark more
 
@@ -56,7 +56,7 @@ pub record Marked (es : List Edge) (ts : List ℕ) (side : Side) (goal : ℕ) (m
 module _ (es : List Edge) (ts : List ℕ) (side : Side) (goal : ℕ) where
   pub reached_way : (v : ℕ) → reaches es ts side goal v ≡ true → (xs : List ℕ) × Way (length es) (end_of es side) (end_of es (other_side side)) (is_live ts) v goal xs
   unfolding reaches
-  reached_way v h = reach_way (length es) (end_of es side) (end_of es (other_side side)) (is_live ts) goal v h
+  reached_way v h = within_way (length es) (end_of es side) (end_of es (other_side side)) (is_live ts) goal (suc (length es)) v h
 
   pub way_reached : (v : ℕ) (xs : List ℕ) → Way (length es) (end_of es side) (end_of es (other_side side)) (is_live ts) v goal xs → reaches es ts side goal v ≡ true
   unfolding reaches

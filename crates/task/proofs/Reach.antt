@@ -53,7 +53,7 @@ module _ (n : ℕ) (from to : ℕ → ℕ) (live : ℕ → Bool) (goal : ℕ) wh
   way_within (x ∷ xs) zero v short w = absurd (omega arith)
   way_within (x ∷ xs) (suc k) v short w = within_on k v (record { number = x; link = w.0; hops = hop_from v x w.1 w.2; near = way_within xs k (to x) (omega arith) w.3 })
 
-  within_way : (k v : ℕ) → within n from to live goal k v ≡ true → (xs : List ℕ) × Way n from to live v goal xs
+  pub within_way : (k v : ℕ) → within n from to live goal k v ≡ true → (xs : List ℕ) × Way n from to live v goal xs
   within_way zero v h = ([], eqb-true v goal h)
   within_way (suc k) v h = ⊎_elim
       (λ e. ([], e))
@@ -100,9 +100,6 @@ module _ (n : ℕ) (from to : ℕ → ℕ) (live : ℕ → Bool) (goal : ℕ) wh
   way_reach v xs w =
       let short = simple xs v w in
       way_within short.links (suc n) v (omega (arith, length-le_from_distinct_below short.links n short.once (λ q. way_below short.links v q short.way))) short.way
-
-  pub reach_way : (v : ℕ) → within n from to live goal (suc n) v ≡ true → (xs : List ℕ) × Way n from to live v goal xs
-  reach_way v h = within_way (suc n) v h
 
   pub within_bound : (k v : ℕ) → within n from to live goal k v ≡ true → within n from to live goal (suc n) v ≡ true
   within_bound k v h = let way = within_way k v h in way_reach v way.0 way.1

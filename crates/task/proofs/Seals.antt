@@ -45,10 +45,6 @@ untouched_tells side es v =
 
 -- ---- paths
 
-pub path_append : (es : List Edge) (u v w : ℕ) (xs ys : List ℕ) → Path es u v xs → Path es v w ys → Path es u w (xs ++ ys)
-path_append es u v w [] ys e q = rw e q
-path_append es u v w (x ∷ xs) ys p q = (p.0, p.1, path_append es (head_of es x) v w xs ys p.2 q)
-
 module _ (es : List Edge) where
   -- live edges taken from tail to head
   abbrev pub Forth : List ℕ → ℕ → ℕ → List ℕ → Type 0
