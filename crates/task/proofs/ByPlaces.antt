@@ -2,6 +2,7 @@
 use Rattle.std.proofs.Common.{◌≡◌, ℕ, ◌+◌, ◌<◌, ◌≤◌, min, Bool, cond, eqb, List, [], ◌∷◌, length, get_or, drop, ℤ, pos, ◌+ℤ◌, refl, sym, ◌∙◌, ap, arith}
 use Rattle.std.proofs.lemmas.Int.{ints}
 use Rattle.std.proofs.lemmas.List.Elements.{All-nil, All-cons, All-weaker}
+use Rattle.std.proofs.lemmas.List.Recursion.{same_from_clauses}
 use Rattle.price.proofs.PairSums.{parts}
 use Rattle.price.specs.declared.senses.Sense.{Sense}
 use Rattle.price.specs.declared.senses.Sense.TheVariants.{Longest}
@@ -73,9 +74,7 @@ prices_by_places sense es run =
 
 -- ---- rows
 
-row_weighed : (es : List Edge) (row : Row) (run : List ℕ) → along (λ e. coefficient row e.block) es run ≡ coefficients_along es row run
-row_weighed es row [] = refl
-row_weighed es row (x ∷ run) = ap (λ z. coefficient row (edge_at es x).block +ℤ z) (row_weighed es row run)
-
 pub rows_by_places : (es : List Edge) (run : List ℕ) → Exist es run → (row : Row) → row_sum es row (turns_in es run) ≡ coefficients_along es row run
-rows_by_places es run exist row = row_by_edges row es (turns_in es run) ∙ along_edges (λ e. coefficient row e.block) es run exist ∙ row_weighed es row run
+rows_by_places es run exist row =
+    row_by_edges row es (turns_in es run) ∙ along_edges (λ e. coefficient row e.block) es run exist
+    ∙ same_from_clauses (along (λ e. coefficient row e.block) es) (coefficients_along es row) (λ x z. coefficient row (edge_at es x).block +ℤ z) refl (λ x xs. refl) (λ x xs. refl) run

@@ -1,9 +1,10 @@
 -- Sums over edges of what each weighs × its turns: from an edge on, and by the places of a run. A sum ends with the shorter list.
-use Rattle.std.proofs.Common.{◌≡◌, ℕ, zero, suc, ◌+◌, ◌<◌, ◌≤◌, min, eqb, List, [], ◌∷◌, length, get_or, drop, ℤ, pos, ◌+ℤ◌, ◌*ℤ◌, refl, ap, ◌∙◌, add-one, arith}
+use Rattle.std.proofs.Common.{◌≡◌, ℕ, zero, suc, ◌+◌, ◌<◌, ◌≤◌, min, eqb, List, [], ◌∷◌, length, get_or, drop, ℤ, pos, ◌+ℤ◌, ◌*ℤ◌, refl, ap, ◌∙◌, ⊎_elim, arith}
 use Rattle.std.specs.List.{All}
 use Rattle.std.proofs.lemmas.Int.{ints}
-use Rattle.std.proofs.lemmas.List.{get_or_default}
+use Rattle.std.proofs.lemmas.List.{get_or_default, get_or_past, drop_more, drop_all}
 use Rattle.std.proofs.lemmas.List.Elements.{All-head, All-tail}
+use Rattle.std.proofs.lemmas.Bool.{cases_lt}
 use Rattle.std.proofs.lemmas.Bool.Decides.{nat_tests}
 use Rattle.price.specs.Integers.{*ℤ-+ℤ}
 use Rattle.task.specs.declared.edges.Edge.{Edge}
@@ -27,26 +28,18 @@ module _ (weight : Edge → ℤ) where
   spent [] = refl
   spent (e ∷ es) = refl
 
-  next : (es : List Edge) (ts : List ℕ) (x : ℕ) → x < length es →
-      weighed (drop x es) (drop x ts) ≡ weight (edge_at es x) *ℤ pos (get_or ts x 0) +ℤ weighed (drop (suc x) es) (drop (suc x) ts)
-  next [] ts x low = absurd (omega arith)
-  next (e ∷ es) (t ∷ ts) zero low = refl
-  next (e ∷ es) (t ∷ ts) (suc x) low = next es ts x (omega arith)
-  next (e ∷ es) [] zero low = omega (arith, ints, spent es)
-  next (e ∷ es) [] (suc x) low = omega (arith, ints, spent (drop x es), spent (drop (suc x) es))
-
   pub weighed_next : (es : List Edge) (ts : List ℕ) (x : ℕ) → x < length es →
       weighed (drop x es) (drop x ts) ≡ weight (edge_at es x) *ℤ pos (get_or ts x 0) +ℤ weighed (drop (x + 1) es) (drop (x + 1) ts)
-  weighed_next es ts x low = rw add-one (next es ts x low)
+  weighed_next es ts x low = ⊎_elim
+      (λ more. rw (drop_more es x no_edge low, drop_more ts x 0 more))
+      (λ end. rw (drop_all x ts end, drop_all (x + 1) ts (omega arith), get_or_past ts x 0 end) (omega (arith, ints, spent (drop x es), spent (drop (x + 1) es))))
+      (cases_lt x (length ts))
 
   pub weighed_done : (es : List Edge) (ts : List ℕ) (x : ℕ) → min (length es) (length ts) ≤ x → weighed (drop x es) (drop x ts) ≡ pos 0
-  weighed_done [] ts zero h = refl
-  weighed_done [] [] (suc x) h = refl
-  weighed_done [] (t ∷ ts) (suc x) h = refl
-  weighed_done (e ∷ es) [] zero h = refl
-  weighed_done (e ∷ es) [] (suc x) h = spent (drop x es)
-  weighed_done (e ∷ es) (t ∷ ts) zero h = absurd (omega arith)
-  weighed_done (e ∷ es) (t ∷ ts) (suc x) h = weighed_done es ts x (omega arith)
+  weighed_done es ts x h = ⊎_elim
+      (λ low. rw (drop_all x ts (omega arith)) (spent (drop x es)))
+      (λ end. rw (drop_all x es end))
+      (cases_lt x (length es))
 
   -- ---- by the places of a run
 

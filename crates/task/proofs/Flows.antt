@@ -1,11 +1,11 @@
 -- What the tests of turns say of balance, of the way to the end and of rows.
-use Rattle.std.proofs.Common.{◌≡◌, ℕ, ◌<◌, ◌≤◌, true, false, not, List, [], ◌∷◌, length, get_or, ℤ, ⊎_elim, arith}
+use Rattle.std.proofs.Common.{◌≡◌, ℕ, ◌<◌, ◌≤◌, true, not, List, [], ◌∷◌, length, get_or, ℤ, ⊎_elim, arith}
 use Rattle.std.proofs.lemmas.Int.{ints}
 use Rattle.std.specs.Bool.{Decides}
 use Rattle.std.specs.List.{All}
 use Rattle.std.proofs.lemmas.List.Elements.{All-nil, All-cons, All-weaker}
 use Rattle.std.proofs.lemmas.List.{get_or_default, get_or_past}
-use Rattle.std.proofs.lemmas.Bool.{both_ways, ltb-true, and_parts, not-true, not-false, cases_lt}
+use Rattle.std.proofs.lemmas.Bool.{ltb-true, not-true, not-false, not_from_true, not_from_false, cases_lt, cases_Bool}
 use Rattle.std.proofs.lemmas.Bool.Decides.{nat_tests}
 use Rattle.task.specs.declared.edges.Edge.{Edge}
 use Rattle.task.specs.declared.edges.Side.{Side}
@@ -23,12 +23,8 @@ use Rattle.task.proofs.Marks.{reached_way, way_reached}
 
 -- ---- balance
 
-module _ (es : List Edge) (start end : ℕ) (ts : List ℕ) (v : ℕ) where
-  pub balance : unbalanced es start end ts v ≡ false → Balanced es start end ts v
-  balance h = grind (arith, nat_tests)
-
-  pub no_balance : unbalanced es start end ts v ≡ true → Balanced es start end ts v → ⊥
-  no_balance h b = grind (arith, nat_tests)
+pub balanced_tells : (es : List Edge) (start end : ℕ) (ts : List ℕ) (v : ℕ) → Decides (not (unbalanced es start end ts v)) (Balanced es start end ts v)
+balanced_tells es start end ts v = (λ h. grind (arith, nat_tests), λ h. grind (arith, nat_tests))
 
 side_low : (side : Side) (e : Edge) (es : List Edge) → end_at side e < node_count (e ∷ es)
 side_low Tail e es = omega arith
@@ -59,14 +55,14 @@ module _ (es : List Edge) (ts : List ℕ) (sized : length ts ≡ length es) wher
   reaching : (e v : ℕ) → Reaches es ts e v → reaches es ts Tail e v ≡ true
   reaching e v r = way_reached es ts Tail e v r.0 (path_forth es ts r.0 v e r.1 (All-weaker (λ x. 0 < get_or ts x 0) (λ x. is_live ts x ≡ true) some_live r.0 r.2))
 
-  module _ (e x : ℕ) (low : x < length es) where
-    pub onward : stranded es e ts x ≡ false → Onward es e ts x
-    onward h some = reached e (head_of es x) (grind (arith, some_live x some))
-
-    pub not_onward : stranded es e ts x ≡ true → Onward es e ts x → ⊥
-    not_onward h goes =
-        let parts = and_parts (is_live ts x) (not (reaches es ts Tail e (head_of es x))) h in
-        both_ways _ (not-true _ parts.1) (reaching e (head_of es x) (goes (live_some x low parts.0)))
+  pub onward_tells : (e x : ℕ) → x < length es → Decides (not (stranded es e ts x)) (Onward es e ts x)
+  onward_tells e x low = (
+    λ h some. reached e (head_of es x) (grind (arith, some_live x some)),
+    λ goes. ⊎_elim
+        (λ on. let near = reaching e (head_of es x) (goes (live_some x low on)) in grind (arith))
+        (λ off. grind (arith))
+        (cases_Bool (is_live ts x)),
+  )
 
 -- ---- rows
 
@@ -75,12 +71,8 @@ meets_tells Below sum k = (λ h. grind (arith, ints), λ h. grind (arith, ints))
 meets_tells AtMost sum k = (λ h. grind (arith, ints), λ h. grind (arith, ints))
 meets_tells Equal sum k = (λ h. grind (arith, ints), λ h. grind (arith, ints))
 
-module _ (es : List Edge) (rows : List Row) (ts : List ℕ) (i : ℕ) where
-  pub keeping : broken es rows ts i ≡ false → Keeps es ts (row_at rows i)
-  keeping h = (meets_tells _ _ _).0 (not-false _ h)
-
-  pub breaking : broken es rows ts i ≡ true → Keeps es ts (row_at rows i) → ⊥
-  breaking h kept = both_ways _ (not-true _ h) ((meets_tells _ _ _).1 kept)
+pub keeps_tells : (es : List Edge) (rows : List Row) (ts : List ℕ) (i : ℕ) → Decides (not (broken es rows ts i)) (Keeps es ts (row_at rows i))
+keeps_tells es rows ts i = let tells = meets_tells _ _ _ in (λ h. tells.0 (not-false _ (not-true _ h)), λ h. not_from_false _ (not_from_true _ (tells.1 h)))
 
 -- ---- between the ends of a graph, sound turns are what a claim has to show
 

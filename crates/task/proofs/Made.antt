@@ -1,5 +1,5 @@
 -- The edge and the row that are made of numbers which pass their questions.
-use Rattle.std.proofs.Common.{◌≡◌, ℕ, ◌≤◌, Bool, true, false, ◌&&◌, leb, List, length, ℤ, Some, None, Ok, Option, Result, refl, arith}
+use Rattle.std.proofs.Common.{◌≡◌, ◌≤◌, Bool, true, false, ◌&&◌, leb, List, length, ℤ, Some, None, Ok, Option, Result, refl, arith}
 use Rattle.std.proofs.lemmas.Bool.Decides.{nat_tests}
 use Rattle.price.specs.Questions.{ask}
 use Rattle.task.specs.declared.edges.Edge.{Edge}

@@ -1,5 +1,5 @@
 -- The goal is reached over live links exactly if it is within one more of them than there are.
-use Rattle.std.proofs.Common.{◌≡◌, ℕ, zero, suc, ◌<◌, ◌≤◌, Bool, true, false, ◌&&◌, eqb, ◌⊎◌, List, [], ◌∷◌, ◌++◌, length, sym, refl, ap, subst, inl, inr, ⊎_elim, arith}
+use Rattle.std.proofs.Common.{◌≡◌, ℕ, zero, suc, ◌<◌, ◌≤◌, Bool, true, false, ◌&&◌, eqb, ◌⊎◌, List, [], ◌∷◌, ◌++◌, length, sym, refl, subst, inl, inr, ⊎_elim, arith}
 use Rattle.std.specs.List.{AllByRecursion, IsDistinct, list_any}
 use Rattle.std.proofs.lemmas.Bool.{both_ways, eqb-true, eq-eqb, ltb-true, lt-ltb, and_parts, and_from, or_cases, or_left, or_right, or_parts}
 use Rattle.std.proofs.lemmas.Map.Keys.{IsDistinct-tail, IsDistinct-cons}
@@ -67,11 +67,11 @@ module _ (n : ℕ) (from to : ℕ → ℕ) (live : ℕ → Bool) (goal : ℕ) wh
     way : Way n from to live v goal links
     once : IsDistinct eqb links
 
-  -- cut before the last place of a link
-  from_link : (x : ℕ) (xs : List ℕ) (v : ℕ) → Way n from to live v goal xs → IsDistinct eqb xs → list_any (eqb x) xs ≡ true → Simple (from x)
+  -- a link of such a way exists, and the way from its last place on is one
+  from_link : (x : ℕ) (xs : List ℕ) (v : ℕ) → Way n from to live v goal xs → IsDistinct eqb xs → list_any (eqb x) xs ≡ true → (x < n) × Simple (from x)
   from_link x [] v w once h = absurd (both_ways false refl h)
   from_link x (y ∷ ys) v w once h = ⊎_elim
-      (λ same. record { links = y ∷ ys; way = (w.0, ap from (sym (eqb-true x y same)), w.2, w.3); once = once })
+      (λ same. let is : x ≡ y = eqb-true x y same in rw is (w.0, record { links = y ∷ ys; way = (w.0, refl, w.2, w.3); once = once }))
       (λ later. from_link x ys (to y) w.3 (IsDistinct-tail eqb y ys once) later)
       (or_cases (eqb x y) (list_any (eqb x) ys) h)
 
@@ -84,22 +84,15 @@ module _ (n : ℕ) (from to : ℕ → ℕ) (live : ℕ → Bool) (goal : ℕ) wh
   simple (x ∷ xs) v w = let rest = simple xs (to x) w.3 in go rest (list_any (eqb x) rest.links) refl
     where
       go : (rest : Simple (to x)) (b : Bool) → list_any (eqb x) rest.links ≡ b → Simple v
-      go rest true h = rw w.1 at (from_link x rest.links (to x) rest.way rest.once h)
+      go rest true h = rw w.1 at ((from_link x rest.links (to x) rest.way rest.once h).1)
       go rest false h = record { links = x ∷ rest.links; way = (w.0, w.1, w.2, rest.way); once = IsDistinct-cons eqb x rest.links (apart x rest.links h) rest.once }
-
-  way_below : (xs : List ℕ) (v q : ℕ) → Way n from to live v goal xs → list_any (eqb q) xs ≡ true → q < n
-  way_below [] v q w h = absurd (both_ways false refl h)
-  way_below (x ∷ xs) v q w h = ⊎_elim
-      (λ same. omega (arith, eqb-true q x same, w.0))
-      (λ later. way_below xs (to x) q w.3 later)
-      (or_cases (eqb q x) (list_any (eqb q) xs) h)
 
   -- ---- both ways
 
   pub way_reach : (v : ℕ) (xs : List ℕ) → Way n from to live v goal xs → within n from to live goal (suc n) v ≡ true
   way_reach v xs w =
       let short = simple xs v w in
-      way_within short.links (suc n) v (omega (arith, length-le_from_distinct_below short.links n short.once (λ q. way_below short.links v q short.way))) short.way
+      way_within short.links (suc n) v (omega (arith, length-le_from_distinct_below short.links n short.once (λ q h. (from_link q short.links v short.way short.once h).0))) short.way
 
   pub within_bound : (k v : ℕ) → within n from to live goal k v ≡ true → within n from to live goal (suc n) v ≡ true
   within_bound k v h = let way = within_way k v h in way_reach v way.0 way.1
