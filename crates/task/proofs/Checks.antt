@@ -14,7 +14,7 @@ use Rattle.task.specs.Rows.{Row, Keeps}
 use Rattle.task.specs.Sides.{node_count}
 use Rattle.task.specs.Sound.{InRange, Balanced, Onward, no_row, row_at, Sound, LowestFailing, Counted, Flowing, Checked, turns_count, turns_range, node_unbalanced, edge_stranded, row_broken, turns_sound}
 use Rattle.task.specs.TurnsAnswer.{over, unbalanced, stranded, broken, unless, turns_answer}
-use Rattle.task.proofs.FirstAndOnly.{First, first_says}
+use Rattle.task.proofs.FirstAndOnly.{first_says}
 use Rattle.task.proofs.Seals.{node_below, below_node}
 use Rattle.task.proofs.Flows.{balanced_tells, onward_tells, keeps_tells}
 
@@ -27,39 +27,29 @@ by_ask : (P : Answer → Type 0) (b : Bool) (fault : TurnsFault) (rest : Answer)
 by_ask P true fault rest failed passed = passed refl
 by_ask P false fault rest failed passed = failed refl
 
--- a question of each place, where the test finds those at which it does not hold
-module _ (P : Answer → Type 0) (Place Holds : ℕ → Type 0) (bad : ℕ → Bool) (n : ℕ) (below : (y : ℕ) → Place y → y < n) (place : (y : ℕ) → y < n → Place y)
-    (tells : (y : ℕ) → y < n → Decides (not (bad y)) (Holds y)) (fault : ℕ → TurnsFault) (rest : Answer) (fails : (x : ℕ) → LowestFailing Place Holds x → P (Err (fault x))) (holds : ((y : ℕ) → Place y → Holds y) → P rest) where
-  good : (y : ℕ) → y < n → bad y ≡ false → Holds y
-  good y low off = (tells y low).0 (not_from_false (bad y) off)
-
-  by_first : (o : Option ℕ) → First bad n o → P (unless fault o rest)
-  by_first None none = holds (λ y at. good y (below y at) (none y (below y at)))
-  by_first (Some x) found = fails x (record { place = place x found.0; fails = λ h. both_ways _ (not_from_true (bad x) found.1) ((tells x found.0).1 h); lowest = λ y low. good y (omega (arith, found.0)) (found.2 y low) })
-
-  by_places : P (unless fault (first bad n) rest)
-  by_places = by_first (first bad n) (first_says bad n)
-
 -- ---- the questions in their order
 
 module _ (es : List Edge) (rows : List Row) (start end : ℕ) (ts : List ℕ) where
   abbrev Says : Answer → Type 0
   Says = Checked es rows start end ts
 
+  abbrev asked : (ℕ → TurnsFault) → Answer → Option ℕ → Type 0
+  asked fault rest place = Says (unless fault place rest)
+
   checked : Says (turns_answer es rows start end ts)
   checked =
       by_ask Says _ Count _ (λ off. turns_count refl (eqb-false _ _ off)) (λ same.
       let sized = eqb-true (length ts) (length es) same in
-      by_places Says (λ x. x < length es) (InRange ts) (over ts) (length es) (λ x low. low) (λ x low. low)
-      (λ x low. (λ h. grind (arith, nat_tests), λ h. grind (arith, nat_tests))) Range _ (λ x. turns_range x refl sized) (λ few.
+      first_says (asked Range _) (λ x. x < length es) (InRange ts) (over ts) (length es) (λ x low. low) (λ x low. low)
+      (λ x low. (λ h. grind (arith, nat_tests), λ h. grind (arith, nat_tests))) (λ x. turns_range x refl sized) (λ few.
       let counted : Counted es ts = record { sized = sized; few = few } in
-      by_places Says (Node es) (Balanced es start end ts) (unbalanced es start end ts) (node_count es) (node_below es) (below_node es)
-      (λ v low. balanced_tells es start end ts v) Unbalanced _ (λ v. node_unbalanced v refl counted) (λ balanced.
+      first_says (asked Unbalanced _) (Node es) (Balanced es start end ts) (unbalanced es start end ts) (node_count es) (node_below es) (below_node es)
+      (λ v low. balanced_tells es start end ts v) (λ v. node_unbalanced v refl counted) (λ balanced.
       let flowing : Flowing es start end ts = record { counted = counted; balanced = balanced } in
-      by_places Says (λ x. x < length es) (Onward es end ts) (stranded es end ts) (length es) (λ x low. low) (λ x low. low)
-      (onward_tells es ts sized end) Stranded _ (λ x. edge_stranded x refl flowing) (λ on.
-      by_places Says (λ i. i < length rows) (λ i. Keeps es ts (row_at rows i)) (broken es rows ts) (length rows) (λ i low. low) (λ i low. low)
-      (λ i low. keeps_tells es rows ts i) RowBroken _ (λ i. row_broken i refl (record { flowing = flowing; onward = on })) (λ keep.
+      first_says (asked Stranded _) (λ x. x < length es) (Onward es end ts) (stranded es end ts) (length es) (λ x low. low) (λ x low. low)
+      (onward_tells es ts sized end) (λ x. edge_stranded x refl flowing) (λ on.
+      first_says (asked RowBroken _) (λ i. i < length rows) (λ i. Keeps es ts (row_at rows i)) (broken es rows ts) (length rows) (λ i low. low) (λ i low. low)
+      (λ i low. keeps_tells es rows ts i) (λ i. row_broken i refl (record { flowing = flowing; onward = on })) (λ keep.
       turns_sound refl (record { sized = sized; few = few; balanced = balanced; onward = on; keeps = All-from_get_or (Keeps es ts) rows no_row keep }))))))
 
   pub answers : (r : Result (Unit {0}) TurnsFault) → r ≡ turns_answer es rows start end ts → Checked es rows start end ts r

@@ -1,16 +1,13 @@
 -- The first number that passes a test, and the only one: what a search answers, and what the answer says.
-use Rattle.std.proofs.Common.{◌≡◌, ℕ, ◌+◌, ◌<◌, ◌≤◌, Bool, true, false, ◌&&◌, ltb, Some, None, Option, arith}
-use Rattle.std.proofs.lemmas.Bool.{both_ways, cond_both, ltb-true, ltb-false, and_parts}
+use Rattle.std.proofs.Common.{◌≡◌, ℕ, ◌+◌, ◌<◌, ◌≤◌, Bool, true, false, not, ◌&&◌, ltb, Some, None, Option, arith}
+use Rattle.std.specs.Bool.{Decides}
+use Rattle.std.proofs.lemmas.Bool.{both_ways, not_from_true, not_from_false, cond_both, ltb-true, ltb-false, and_parts}
 use Rattle.std.proofs.lemmas.Bool.Decides.{nat_tests}
 use Rattle.task.specs.Lowest.{lowest, first, sole, FirstFrom}
+use Rattle.task.specs.Sound.{LowestFailing}
 use Rattle.task.proofs.Lowest.{lowest_passes, lowest_misses, lowest_le, lowest_is, lowest_none}
 
 -- ---- the first
-
--- what the answer of a search for the first number says
-abbrev pub First : (ℕ → Bool) → ℕ → Option ℕ → Type 0
-First p n (Some x) = (x < n) × (p x ≡ true) × ((y : ℕ) → y < x → p y ≡ false)
-First p n None = (y : ℕ) → y < n → p y ≡ false
 
 first_found : (p : ℕ → Bool) (n x : ℕ) → x < n → p x ≡ true → ((y : ℕ) → y < x → p y ≡ false) → Some x ≡ first p n
 first_found p n x low met miss = grind (arith, nat_tests, lowest_is p n x low met miss)
@@ -18,10 +15,22 @@ first_found p n x low met miss = grind (arith, nat_tests, lowest_is p n x low me
 first_none : (p : ℕ → Bool) (n : ℕ) → ((y : ℕ) → y < n → p y ≡ false) → None ≡ first p n
 first_none p n miss = grind (arith, nat_tests, lowest_none p n miss)
 
-pub first_says : (p : ℕ → Bool) (n : ℕ) → First p n (first p n)
-first_says p n = cond_both (ltb (lowest p n) n) (Some (lowest p n)) None (First p n)
-    (λ h. let low = ltb-true (lowest p n) n h in (low, lowest_passes p n low, lowest_misses p n))
-    (λ h y low. lowest_misses p n y (omega (arith, ltb-false (lowest p n) n h)))
+-- a question of each place, where the test passes at those that fail it: the answer names the lowest, or all hold
+module _ (Says : Option ℕ → Type 0) (Place Holds : ℕ → Type 0) (bad : ℕ → Bool) (n : ℕ) (below : (y : ℕ) → Place y → y < n) (place : (y : ℕ) → y < n → Place y)
+    (tells : (y : ℕ) → y < n → Decides (not (bad y)) (Holds y)) (fails : (x : ℕ) → LowestFailing Place Holds x → Says (Some x)) (holds : ((y : ℕ) → Place y → Holds y) → Says None) where
+  good : (y : ℕ) → y < n → y < lowest bad n → Holds y
+  good y low before = (tells y low).0 (not_from_false (bad y) (lowest_misses bad n y before))
+
+  pub first_says : Says (first bad n)
+  first_says = cond_both (ltb (lowest bad n) n) (Some (lowest bad n)) None Says
+      (λ h.
+      let low = ltb-true (lowest bad n) n h in
+      fails (lowest bad n) (record {
+        place = place (lowest bad n) low;
+        fails = λ is. both_ways _ (not_from_true _ (lowest_passes bad n low)) ((tells (lowest bad n) low).1 is);
+        lowest = λ y before. good y (omega arith) before;
+      }))
+      (λ h. holds (λ y at. good y (below y at) (omega (arith, ltb-false (lowest bad n) n h, below y at))))
 
 -- ---- the only one
 

@@ -65,16 +65,13 @@ module _ (es : List Edge) (ts : List ℕ) (side : Side) (goal : ℕ) where
   reaches_on : (x : ℕ) → x < length es → is_live ts x ≡ true → reaches es ts side goal (end_of es (other_side side) x) ≡ true → reaches es ts side goal (end_of es side x) ≡ true
   reaches_on x low on h = let way = reached_way (end_of es (other_side side) x) h in way_reached (end_of es side x) (x ∷ way.0) (low, refl, on, way.1)
 
-  reaches_goal : reaches es ts side goal goal ≡ true
-  reaches_goal = way_reached goal [] refl
-
   pub only_goal : goal < 32 → Marked es ts side goal (set (replicate 32 false) goal true) false
   only_goal low =
       let none : All (λ b. b ≡ false) (replicate 32 false) = All-replicate (λ b. b ≡ false) 32 false refl in
       let blank : (v : ℕ) → get_or (replicate 32 false) v false ≡ false = λ v. grind (arith, none v false, get_or_past (replicate 32 false) v false) in
       record {
         sized = length-set (replicate 32 false) goal true ∙ length-replicate 32 false;
-        right = λ v m. ⊎_elim (λ (e : v ≡ goal). rw e reaches_goal) (λ was. absurd (both_ways _ (blank v) was)) (mark_cases (replicate 32 false) goal v m);
+        right = λ v m. ⊎_elim (λ (e : v ≡ goal). rw e (way_reached goal [] refl)) (λ was. absurd (both_ways _ (blank v) was)) (mark_cases (replicate 32 false) goal v m);
         at_goal = get_or-set_same (replicate 32 false) goal true false (omega (arith, length-replicate 32 false));
         done = λ s. absurd (both_ways false refl s);
       }

@@ -1,7 +1,8 @@
 -- The goal is reached over live links exactly if it is within one more of them than there are.
 use Rattle.std.proofs.Common.{◌≡◌, ℕ, zero, suc, ◌<◌, ◌≤◌, Bool, true, false, ◌&&◌, eqb, ◌⊎◌, List, [], ◌∷◌, ◌++◌, length, sym, refl, subst, inl, inr, ⊎_elim, arith}
 use Rattle.std.specs.List.{AllByRecursion, IsDistinct, list_any}
-use Rattle.std.proofs.lemmas.Bool.{both_ways, eqb-true, eq-eqb, ltb-true, lt-ltb, and_parts, and_from, or_cases, or_left, or_right, or_parts}
+use Rattle.std.proofs.lemmas.Bool.{both_ways, eqb-true, eq-eqb, ltb-true, lt-ltb, and_parts, and_from, or_cases, or_left, or_parts, cases_Bool}
+use Rattle.std.proofs.lemmas.Bool.Decides.{nat_tests}
 use Rattle.std.proofs.lemmas.Map.Keys.{IsDistinct-tail, IsDistinct-cons}
 use Rattle.std.proofs.lemmas.Map.Steps.{length-le_from_distinct_below}
 use Rattle.task.specs.Lowest.{lowest}
@@ -12,11 +13,8 @@ module _ (n : ℕ) (from to : ℕ → ℕ) (live : ℕ → Bool) (goal : ℕ) wh
   pub hop_from : (v x : ℕ) → from x ≡ v → live x ≡ true → hop n from to live v x ≡ true
   hop_from v x e h = and_from (eqb (from x) v) (live x) (eq-eqb (from x) v e) h
 
-  pub hop_leaves : (v x : ℕ) → hop n from to live v x ≡ true → from x ≡ v
-  hop_leaves v x h = eqb-true (from x) v (and_parts (eqb (from x) v) (live x) h).0
-
-  pub hop_live : (v x : ℕ) → hop n from to live v x ≡ true → live x ≡ true
-  hop_live v x h = (and_parts (eqb (from x) v) (live x) h).1
+  hop_tells : (v x : ℕ) → hop n from to live v x ≡ true → (from x ≡ v) × (live x ≡ true)
+  hop_tells v x h = let parts = and_parts (eqb (from x) v) (live x) h in (eqb-true (from x) v parts.0, parts.1)
 
   -- a live link from v to a node within k
   pub record Onward (k v : ℕ) : Type 0 where
@@ -29,23 +27,21 @@ module _ (n : ℕ) (from to : ℕ → ℕ) (live : ℕ → Bool) (goal : ℕ) wh
   within_end zero v e = eq-eqb v goal e
   within_end (suc k) v e = or_left (eqb v goal) _ (eq-eqb v goal e)
 
+  -- link x is live, leaves v, and leads to a node within k
+  abbrev leads : ℕ → ℕ → ℕ → Bool
+  leads k v x = hop n from to live v x && within n from to live goal k (to x)
+
   pub within_on : (k v : ℕ) → Onward k v → within n from to live goal (suc k) v ≡ true
-  within_on k v on = or_right (eqb v goal) _
-      (lt-ltb (lowest test n) n (omega (arith, on.link, lowest_le test n on.number (and_from (hop n from to live v on.number) _ on.hops on.near))))
-    where
-      test : ℕ → Bool
-      test x = hop n from to live v x && within n from to live goal k (to x)
+  within_on k v on = grind (arith, nat_tests, on.link, lowest_le (leads k v) n on.number (and_from _ _ on.hops on.near))
 
   pub within_cases : (k v : ℕ) → within n from to live goal (suc k) v ≡ true → (v ≡ goal) ⊎ Onward k v
-  within_cases k v h = ⊎_elim (λ e. inl (eqb-true v goal e)) (λ t. inr (on (ltb-true (lowest test n) n t))) (or_cases (eqb v goal) _ h)
-    where
-      test : ℕ → Bool
-      test x = hop n from to live v x && within n from to live goal k (to x)
-
-      on : lowest test n < n → Onward k v
-      on low =
-          let parts = and_parts (hop n from to live v (lowest test n)) (within n from to live goal k (to (lowest test n))) (lowest_passes test n low) in
-          record { number = lowest test n; link = low; hops = parts.0; near = parts.1 }
+  within_cases k v h = ⊎_elim
+      (λ e. inl (eqb-true v goal e))
+      (λ t.
+      let x = lowest (leads k v) n in
+      let parts = and_parts (hop n from to live v x) _ (lowest_passes (leads k v) n (ltb-true x n t)) in
+      inr (record { number = x; link = ltb-true x n t; hops = parts.0; near = parts.1 }))
+      (or_cases (eqb v goal) _ h)
 
   -- a way that is no longer than k
   way_within : (xs : List ℕ) (k v : ℕ) → length xs ≤ k → Way n from to live v goal xs → within n from to live goal k v ≡ true
@@ -57,7 +53,7 @@ module _ (n : ℕ) (from to : ℕ → ℕ) (live : ℕ → Bool) (goal : ℕ) wh
   within_way zero v h = ([], eqb-true v goal h)
   within_way (suc k) v h = ⊎_elim
       (λ e. ([], e))
-      (λ on. let rest = within_way k (to on.number) on.near in (on.number ∷ rest.0, (on.link, hop_leaves v on.number on.hops, hop_live v on.number on.hops, rest.1)))
+      (λ on. let rest = within_way k (to on.number) on.near in let hops = hop_tells v on.number on.hops in (on.number ∷ rest.0, (on.link, hops.0, hops.1, rest.1)))
       (within_cases k v h)
 
   -- ---- a way that takes no link twice
@@ -81,11 +77,12 @@ module _ (n : ℕ) (from to : ℕ → ℕ) (live : ℕ → Bool) (goal : ℕ) wh
 
   simple : (xs : List ℕ) (v : ℕ) → Way n from to live v goal xs → Simple v
   simple [] v w = record { links = []; way = w; once = unfold IsDistinct in tt }
-  simple (x ∷ xs) v w = let rest = simple xs (to x) w.3 in go rest (list_any (eqb x) rest.links) refl
-    where
-      go : (rest : Simple (to x)) (b : Bool) → list_any (eqb x) rest.links ≡ b → Simple v
-      go rest true h = rw w.1 at ((from_link x rest.links (to x) rest.way rest.once h).1)
-      go rest false h = record { links = x ∷ rest.links; way = (w.0, w.1, w.2, rest.way); once = IsDistinct-cons eqb x rest.links (apart x rest.links h) rest.once }
+  simple (x ∷ xs) v w =
+      let rest = simple xs (to x) w.3 in
+      ⊎_elim
+        (λ again. rw w.1 at ((from_link x rest.links (to x) rest.way rest.once again).1))
+        (λ new. record { links = x ∷ rest.links; way = (w.0, w.1, w.2, rest.way); once = IsDistinct-cons eqb x rest.links (apart x rest.links new) rest.once })
+        (cases_Bool (list_any (eqb x) rest.links))
 
   -- ---- both ways
 
@@ -105,13 +102,7 @@ module _ (n : ℕ) (from to : ℕ → ℕ) (live : ℕ → Bool) (goal : ℕ) wh
 
 -- ---- the same way, the other way round
 
-module _ (n : ℕ) (live : ℕ → Bool) where
-  way_append : (from to : ℕ → ℕ) (u v w : ℕ) (xs ys : List ℕ) → Way n from to live u v xs → Way n from to live v w ys → Way n from to live u w (xs ++ ys)
-  way_append from to u v w [] ys e q = rw e q
-  way_append from to u v w (x ∷ xs) ys p q = (p.0, p.1, p.2, way_append from to (to x) v w xs ys p.3 q)
-
-  pub way_back : (from to : ℕ → ℕ) (u w : ℕ) (xs : List ℕ) → Way n from to live u w xs → (ys : List ℕ) × Way n to from live w u ys
-  way_back from to u w [] p = ([], sym p)
-  way_back from to u w (x ∷ xs) p =
-      let rest = way_back from to (to x) w xs p.3 in
-      (rest.0 ++ (x ∷ []), way_append to from w (to x) u rest.0 (x ∷ []) rest.1 (p.0, refl, p.2, p.1))
+-- a way, and what was taken before it
+pub way_back : (n : ℕ) (from to : ℕ → ℕ) (live : ℕ → Bool) (u w z : ℕ) (xs ys : List ℕ) → Way n from to live u w xs → Way n to from live u z ys → (zs : List ℕ) × Way n to from live w z zs
+way_back n from to live u w z [] ys p q = (ys, rw p at q)
+way_back n from to live u w z (x ∷ xs) ys p q = way_back n from to live (to x) w z xs (x ∷ ys) p.3 (p.0, refl, p.2, rw p.1 q)

@@ -1,8 +1,8 @@
 -- What the answer of `ends` says of nodes and paths.
-use Rattle.std.proofs.Common.{◌≡◌, ℕ, suc, ◌+◌, ◌<◌, ◌≤◌, max, true, false, eqb, ◌⊎◌, ◌↔◌, List, [], ◌∷◌, length, Some, None, Ok, Option, Result, ◌≢◌, sym, refl, ◌∙◌, subst, inl, inr, ⊎_elim, arith}
+use Rattle.std.proofs.Common.{◌≡◌, ℕ, suc, ◌+◌, ◌<◌, ◌≤◌, max, true, false, eqb, ◌⊎◌, ◌↔◌, List, [], ◌∷◌, length, Some, None, Ok, Option, Result, ◌≢◌, not, sym, refl, ◌∙◌, subst, inl, inr, ⊎_elim, arith}
 use Rattle.std.specs.Bool.{Decides}
 use Rattle.std.specs.List.{All}
-use Rattle.std.proofs.lemmas.Bool.{both_ways, eq-eqb, ne_eqb, and_parts, and_from, not-true, not-false, not_from_false}
+use Rattle.std.proofs.lemmas.Bool.{both_ways, eq-eqb, ne_eqb, and_parts, and_from, not-true, not-false, not_from_true, not_from_false}
 use Rattle.std.proofs.lemmas.List.Elements.{All-head, All-tail}
 use Rattle.std.proofs.lemmas.List.Recursion.{max_bounds, or_at, or_from_places}
 use Rattle.task.specs.declared.edges.Edge.{Edge}
@@ -15,7 +15,7 @@ use Rattle.task.specs.Graph.{no_edge, tail_of, head_of, Node, Start, End, Path}
 use Rattle.task.specs.Sides.{end_at, end_of, node_count, touched, untouched, is_live, reaches}
 use Rattle.task.specs.Sealing.{OneStart, OneEnd, OnPath, Ends, Sealed, not_one_start, not_one_end, node_astray, sealed, EdgeOnPath, EveryEdge}
 use Rattle.task.specs.EndsAnswer.{astray, unless_astray, ends_of, ends_answer}
-use Rattle.task.proofs.FirstAndOnly.{First, first_says, Sole, sole_says}
+use Rattle.task.proofs.FirstAndOnly.{first_says, Sole, sole_says}
 use Rattle.task.proofs.Reach.{way_back}
 use Rattle.task.proofs.Marks.{reached_way, way_reached}
 
@@ -58,21 +58,21 @@ module _ (es : List Edge) where
   path_forth ts [] v e p all = p
   path_forth ts (x ∷ xs) v e p all = (p.0, p.1, All-head (λ y. is_live ts y ≡ true) x xs all, path_forth ts xs (head_of es x) e p.2 (All-tail (λ y. is_live ts y ≡ true) x xs all))
 
-  module _ (s e v : ℕ) where
-    pub on_path : astray es s e v ≡ false → OnPath es s e v
-    on_path h =
-        let both = and_parts (reaches es [] Head s v) (reaches es [] Tail e v) (not-false _ h) in
-        let back = reached_way es [] Head s v both.0 in
-        let comes = way_back (length es) (is_live []) (end_of es Head) (end_of es Tail) v s back.0 back.1 in
-        let forth = reached_way es [] Tail e v both.1 in
-        record { before = comes.0; comes = forth_path [] comes.0 s v comes.1; after = forth.0; goes = forth_path [] forth.0 v e forth.1 }
-
-    pub off_path : astray es s e v ≡ true → OnPath es s e v → ⊥
-    off_path h on =
-        let back = way_back (length es) (is_live []) (end_of es Tail) (end_of es Head) s v on.before (path_forth [] on.before s v on.comes (λ k d low. refl)) in
-        both_ways _ (not-true _ h)
-        (and_from (reaches es [] Head s v) (reaches es [] Tail e v) (way_reached es [] Head s v back.0 back.1)
-        (way_reached es [] Tail e v on.after (path_forth [] on.after v e on.goes (λ k d low. refl))))
+  -- v is reached from s and reaches e exactly if it lies on a path between them
+  on_path : (s e v : ℕ) → Decides (not (astray es s e v)) (OnPath es s e v)
+  on_path s e v = (
+    λ h.
+    let both = and_parts (reaches es [] Head s v) (reaches es [] Tail e v) (not-false _ (not-true _ h)) in
+    let back = reached_way es [] Head s v both.0 in
+    let comes = way_back (length es) (end_of es Head) (end_of es Tail) (is_live []) v s v back.0 [] back.1 refl in
+    let forth = reached_way es [] Tail e v both.1 in
+    record { before = comes.0; comes = forth_path [] comes.0 s v comes.1; after = forth.0; goes = forth_path [] forth.0 v e forth.1 },
+    λ on.
+    let back = way_back (length es) (end_of es Tail) (end_of es Head) (is_live []) s v s on.before [] (path_forth [] on.before s v on.comes (λ k d low. refl)) refl in
+    let comes = way_reached es [] Head s v back.0 back.1 in
+    let goes = way_reached es [] Tail e v on.after (path_forth [] on.after v e on.goes (λ k d low. refl)) in
+    not_from_false _ (not_from_true _ (and_from (reaches es [] Head s v) (reaches es [] Tail e v) comes goes)),
+  )
 
 -- ---- the answer
 
@@ -89,24 +89,17 @@ module _ (es : List Edge) where
   one_end : (e : ℕ) → Sole (untouched Tail es) (node_count es) (Some e) → OneEnd es e
   one_end e so = record { is = an_end e so.0 so.1; only = λ v en. so.2 v (node_below es v en.node) ((untouched_tells Tail es v).1 en.not_left) }
 
-  by_astray : (s e : ℕ) → OneStart es s → OneEnd es e → (o : Option ℕ) → First (astray es s e) (node_count es) o → Sealed es (unless_astray (s, e) o)
-  by_astray s e starts ends None none = sealed s e refl (record { start = starts; end = ends; between = λ v node. on_path es s e v (none v (node_below es v node)) })
-  by_astray s e starts ends (Some v) found = node_astray v refl (record {
-    start = s;
-    starts = starts;
-    end = e;
-    ends = ends;
-    node = below_node es v found.0;
-    off = off_path es s e v found.1;
-    lowest = λ u low. on_path es s e u (found.2 u low);
-  })
-
   by_ends : (a b : Option ℕ) → Sole (untouched Head es) (node_count es) a → Sole (untouched Tail es) (node_count es) b → Sealed es (ends_of es a b)
   by_ends None b none so =
       not_one_start refl (λ s one. none s (node_below es s one.is.node) ((untouched_tells Head es s).1 one.is.not_entered) (λ v low h. one.only v (a_start v low h)))
   by_ends (Some s) None so none =
       not_one_end refl s (one_start s so) (λ e one. none e (node_below es e one.is.node) ((untouched_tells Tail es e).1 one.is.not_left) (λ v low h. one.only v (an_end v low h)))
-  by_ends (Some s) (Some e) so to = by_astray s e (one_start s so) (one_end e to) (first (astray es s e) (node_count es)) (first_says (astray es s e) (node_count es))
+  by_ends (Some s) (Some e) so to =
+      let starts = one_start s so in
+      let ends = one_end e to in
+      first_says (λ o. Sealed es (unless_astray (s, e) o)) (Node es) (OnPath es s e) (astray es s e) (node_count es) (node_below es) (below_node es) (λ v low. on_path es s e v)
+      (λ v low. node_astray v refl (record { start = s; starts = starts; end = e; ends = ends; node = low.place; off = low.fails; lowest = low.lowest }))
+      (λ between. sealed s e refl (record { start = starts; end = ends; between = between }))
 
   pub answer_says : Sealed es (ends_answer es)
   answer_says = by_ends (sole (untouched Head es) (node_count es)) (sole (untouched Tail es) (node_count es)) (sole_says (untouched Head es) (node_count es)) (sole_says (untouched Tail es) (node_count es))
