@@ -1,5 +1,5 @@
 -- What whoever adds a tariff shows, over all pairs of whole numbers.
-use Rattle.std.specs.Prelude.{Bool, not, T, ◌⊎◌, ◌↔◌}
+use Rattle.std.specs.Prelude.{Bool, not, IsTrue, ◌⊎◌, ◌↔◌}
 use Rattle.price.specs.Pairs.{Pair, ◌⊕◌}
 use Rattle.price.specs.Ranges.{Both}
 
@@ -9,10 +9,10 @@ cheaper le a b = not (le b a)
 
 pub record Laws (le : Pair → Pair → Bool) (unit : Pair) : Type 0 where
   -- of any two prices one is no dearer than the other
-  pub total : (a b : Pair) → T (le a b) ⊎ T (le b a)
-  pub trans : (a b c : Pair) → T (le a b) → T (le b c) → T (le a c)
-  pub add : (a b c d : Pair) → T (le a b) → T (le c d) → T (le (a ⊕ c) (b ⊕ d))
+  pub total : (a b : Pair) → IsTrue (le a b) ⊎ IsTrue (le b a)
+  pub trans : (a b c : Pair) → IsTrue (le a b) → IsTrue (le b c) → IsTrue (le a c)
+  pub add : (a b c d : Pair) → IsTrue (le a b) → IsTrue (le c d) → IsTrue (le (a ⊕ c) (b ⊕ d))
   -- no dearer than b is cheaper than one unit more than b
-  pub step : (a b : Pair) → T (le a b) ↔ T (cheaper le a (b ⊕ unit))
+  pub step : (a b : Pair) → IsTrue (le a b) ↔ IsTrue (cheaper le a (b ⊕ unit))
   -- the unit can be handed out as a price
   pub small : Both 1000 unit

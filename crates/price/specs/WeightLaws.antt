@@ -6,7 +6,6 @@ use Rattle.price.specs.Pairs.{Pair, ◌⊕◌}
 use Rattle.price.specs.Laws.{Laws}
 use Rattle.price.specs.Tariffs.{weighed, by_weight, one_cycle}
 use Rattle.price.specs.Integers.{*ℤ-+ℤ}
-use Rattle.price.specs.Tests.{holds, fails, either}
 
 -- a sum weighs what its parts weigh
 weighed-⊕ : (w : ℕ) (a b : Pair) → weighed w (a ⊕ b) ≡ weighed w a +ℤ weighed w b
@@ -14,12 +13,9 @@ weighed-⊕ w a b = omega (arith, ints, *ℤ-+ℤ (pos w) a.1 b.1)
 
 pub weight_laws : (w : ℕ) → Laws (by_weight w) one_cycle
 weight_laws w = record {
-  total = λ a b. either _ _ (λ m n. omega (arith, ints));
-  trans = λ a b c h k. omega (arith, ints);
-  add = λ a b c d h k. omega (arith, ints, weighed-⊕ w a c, weighed-⊕ w b d);
-  step = λ a b. (
-    λ h. fails _ (λ n. omega (arith, ints, weighed-⊕ w b one_cycle)),
-    λ h. holds _ (λ n. omega (arith, ints, weighed-⊕ w b one_cycle)),
-  );
+  total = λ a b. grind (arith, ints);
+  trans = λ a b c h k. grind (arith, ints);
+  add = λ a b c d h k. grind (arith, ints, weighed-⊕ w a c, weighed-⊕ w b d);
+  step = λ a b. (λ h. grind (arith, ints, weighed-⊕ w b one_cycle), λ h. grind (arith, ints, weighed-⊕ w b one_cycle));
   small = omega (arith, ints);
 }

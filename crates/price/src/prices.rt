@@ -1,5 +1,5 @@
 // The price record.
-ghost use Rattle.std.specs.Prelude.{◌≡◌, T, ◌↔◌, IfOk, MatchResult};
+ghost use Rattle.std.specs.Prelude.{◌≡◌, ◌↔◌, IsTrue, IfOk, MatchResult};
 ghost use Rattle.price.specs.Ranges.{Part};
 
 use crate::out_of_range::OutOfRange;
@@ -29,7 +29,7 @@ impl Model for Price {
 }
 
 fn is_part(z: i64) -> bool
-    ensures { T result ↔ Part z }
+    ensures { IsTrue result ↔ Part z }
 {
     (-MAX_PART..=MAX_PART).contains(&z)
 }

@@ -1,45 +1,39 @@
 -- The sum of a row, edge by edge.
-use Rattle.std.proofs.Common.{◌≡◌, ℕ, zero, suc, cond, eqb, List, [], ◌∷◌, get_or, ℤ, pos, ◌+ℤ◌, ◌*ℤ◌, refl, ◌∙◌, add-one, arith}
+use Rattle.std.proofs.Common.{◌≡◌, ℕ, zero, suc, ◌+◌, ◌<◌, cond, eqb, List, [], ◌∷◌, get_or, ℤ, pos, ◌+ℤ◌, ◌*ℤ◌, refl, ◌∙◌, ap, arith}
 use Rattle.std.proofs.lemmas.Int.{ints}
+use Rattle.std.proofs.lemmas.Bool.Decides.{nat_tests}
 use Rattle.price.specs.Integers.{*ℤ-+ℤ}
 use Rattle.task.specs.declared.edges.Edge.{Edge}
 use Rattle.task.specs.Turns.{block_turns}
 use Rattle.task.specs.Rows.{Row, coefficient, weigh, row_sum}
-use Rattle.task.proofs.Linear.{spot, Linear}
-use Rattle.task.proofs.ByPlaces.{no_turns, more_turns, swap, weigh_none, weigh_add, weigh_spot}
+use Rattle.task.proofs.EdgeSums.{weighed}
 
--- the coefficient of the edge's block × its turns, added up over the edges
-abbrev pub by_edges : Row → List Edge → List ℕ → ℤ
-by_edges row [] ts = pos 0
-by_edges row (e ∷ es) [] = pos 0
-by_edges row (e ∷ es) (t ∷ ts) = coefficient row e.block *ℤ pos t +ℤ by_edges row es ts
+no_turns : (i : ℕ) (cs : List ℤ) → weigh (λ b. 0) i cs ≡ pos 0
+no_turns i [] = refl
+no_turns i (c ∷ cs) = omega (arith, ints, no_turns (suc i) cs)
 
-none_of : (c : ℤ) → c *ℤ pos 0 ≡ pos 0
-none_of c = omega (arith, ints)
+-- t more turns of block b
+abbrev more : ℕ → ℕ → (ℕ → ℕ) → ℕ → ℕ
+more b t turns i = cond (eqb b i) t 0 + turns i
 
-pub edges_linear : (row : Row) → Linear (pos 0) (λ a b. a +ℤ b) (λ e t. coefficient row e.block *ℤ pos t) (by_edges row)
-edges_linear row = record {
-  no_edges = λ ts. refl;
-  turns_end = λ e es. refl;
-  one_more = λ e es t ts. refl;
-  no_turns = λ e. none_of (coefficient row e.block);
-  more_turns = λ e m n. *ℤ-+ℤ (coefficient row e.block) (pos m) (pos n);
-  add_none = λ a. omega (arith, ints);
-  none_add = λ a. omega (arith, ints);
-  crosses = swap;
-}
+module _ (t : ℕ) (turns : ℕ → ℕ) where
+  more_before : (b i : ℕ) (cs : List ℤ) → b < i → weigh (more b t turns) i cs ≡ weigh turns i cs
+  more_before b i [] low = refl
+  more_before b i (c ∷ cs) low =
+      let same : more b t turns i ≡ turns i = grind (arith, nat_tests) in
+      rw same (ap (λ z. c *ℤ pos (turns i) +ℤ z) (more_before b (suc i) cs (omega arith)))
 
--- t turns of one block
-weigh_turns : (b t : ℕ) (cs : List ℤ) → weigh (λ i. cond (eqb b i) t 0) 0 cs ≡ get_or cs b (pos 0) *ℤ pos t
-weigh_turns b zero cs = (λ j. weigh (λ i. no_turns (eqb b i) j) 0 cs) ∙ weigh_none 0 cs ∙ omega (arith, ints)
-weigh_turns b (suc t) cs =
-    rw (← add-one t)
-    ((λ j. weigh (λ i. more_turns (eqb b i) t 1 j) 0 cs) ∙ weigh_add (λ i. cond (eqb b i) t 0) (spot b) 0 cs
-    ∙ (λ j. weigh_turns b t cs j +ℤ weigh_spot b cs j) ∙ omega (arith, ints))
+  more_at : (cs : List ℤ) (k b i : ℕ) → b ≡ i + k → weigh (more b t turns) i cs ≡ get_or cs k (pos 0) *ℤ pos t +ℤ weigh turns i cs
+  more_at [] k b i is = omega (arith, ints)
+  more_at (c ∷ cs) zero b i is =
+      let here : more b t turns i ≡ t + turns i = grind (arith, nat_tests) in
+      rw here (omega (arith, ints, *ℤ-+ℤ c (pos t) (pos (turns i)), more_before b (suc i) cs (omega arith)))
+  more_at (c ∷ cs) (suc k) b i is =
+      let same : more b t turns i ≡ turns i = grind (arith, nat_tests) in
+      rw same (omega (arith, ints, more_at cs k b (suc i) (omega arith)))
 
-pub row_by_edges : (row : Row) (es : List Edge) (ts : List ℕ) → row_sum es row ts ≡ by_edges row es ts
-row_by_edges row [] ts = weigh_none 0 row.coefficients
-row_by_edges row (e ∷ es) [] = weigh_none 0 row.coefficients
+pub row_by_edges : (row : Row) (es : List Edge) (ts : List ℕ) → row_sum es row ts ≡ weighed (λ e. coefficient row e.block) es ts
+row_by_edges row [] ts = no_turns 0 row.coefficients
+row_by_edges row (e ∷ es) [] = no_turns 0 row.coefficients
 row_by_edges row (e ∷ es) (t ∷ ts) =
-    weigh_add (λ b. cond (eqb e.block b) t 0) (block_turns es ts) 0 row.coefficients
-    ∙ (λ j. weigh_turns e.block t row.coefficients j +ℤ row_by_edges row es ts j)
+    more_at t (block_turns es ts) row.coefficients e.block e.block 0 (omega arith) ∙ ap (λ z. coefficient row e.block *ℤ pos t +ℤ z) (row_by_edges row es ts)

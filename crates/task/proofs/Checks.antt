@@ -1,80 +1,56 @@
 -- What the answer of `check_turns` says.
-use Rattle.std.proofs.Common.{◌≡◌, ℕ, Bool, true, false, eqb, ◌↔◌, List, length, get_or, Some, None, Ok, Option, Result, sym, refl, subst, arith}
+use Rattle.std.proofs.Common.{◌≡◌, ℕ, ◌<◌, Bool, true, false, not, ◌↔◌, List, length, Some, None, Ok, Err, Option, Result, sym, refl, subst, arith}
+use Rattle.std.specs.Bool.{Decides}
 use Rattle.price.specs.Questions.{ask}
 use Rattle.task.specs.declared.faults.TurnsFault.{TurnsFault}
 use Rattle.task.specs.declared.faults.TurnsFault.TheVariants.{Count, Range, Unbalanced, Stranded, RowBroken}
 use Rattle.std.proofs.lemmas.List.Elements.{All-get_or, All-from_get_or}
-use Rattle.std.proofs.lemmas.Bool.{eqb-true, eqb-false, ltb-true, ltb-false}
+use Rattle.std.proofs.lemmas.Bool.{both_ways, eqb-true, eqb-false, not_from_true, not_from_false}
+use Rattle.std.proofs.lemmas.Bool.Decides.{nat_tests}
 use Rattle.task.specs.declared.edges.Edge.{Edge}
+use Rattle.task.specs.Graph.{Node}
 use Rattle.task.specs.Lowest.{first}
 use Rattle.task.specs.Rows.{Row, Keeps}
 use Rattle.task.specs.Sides.{node_count}
-use Rattle.task.specs.Sound.{no_row, Sound, Counted, Flowing, Joined, Checked, turns_count, turns_range, node_unbalanced, edge_stranded, row_broken, turns_sound}
+use Rattle.task.specs.Sound.{InRange, Balanced, Onward, no_row, row_at, Sound, LowestFailing, Counted, Flowing, Checked, turns_count, turns_range, node_unbalanced, edge_stranded, row_broken, turns_sound}
 use Rattle.task.specs.TurnsAnswer.{over, unbalanced, stranded, broken, unless, turns_answer}
-use Rattle.task.proofs.Only.{First, first_says}
+use Rattle.task.proofs.FirstAndOnly.{first_says}
 use Rattle.task.proofs.Seals.{node_below, below_node}
-use Rattle.task.proofs.Flows.{balance, no_balance, onward, not_onward, keeping, breaking}
+use Rattle.task.proofs.Flows.{balanced_tells, onward_tells, keeps_tells}
+
+abbrev Answer : Type 0
+Answer = Result (Unit {0}) TurnsFault
+
+-- ---- one question
+
+by_ask : (P : Answer → Type 0) (b : Bool) (fault : TurnsFault) (rest : Answer) → (b ≡ false → P (Err fault)) → (b ≡ true → P rest) → P (ask b fault rest)
+by_ask P true fault rest failed passed = passed refl
+by_ask P false fault rest failed passed = failed refl
+
+-- ---- the questions in their order
 
 module _ (es : List Edge) (rows : List Row) (start end : ℕ) (ts : List ℕ) where
-  -- ---- the answer, from the last question to the first
+  abbrev Says : Answer → Type 0
+  Says = Checked es rows start end ts
 
-  kept_next : Result (Unit {0}) TurnsFault
-  kept_next = unless RowBroken (first (broken es rows ts) (length rows)) (Ok tt)
+  abbrev asked : (ℕ → TurnsFault) → Answer → Option ℕ → Type 0
+  asked fault rest place = Says (unless fault place rest)
 
-  onward_next : Result (Unit {0}) TurnsFault
-  onward_next = unless Stranded (first (stranded es end ts) (length es)) kept_next
-
-  balance_next : Result (Unit {0}) TurnsFault
-  balance_next = unless Unbalanced (first (unbalanced es start end ts) (node_count es)) onward_next
-
-  by_rows : Joined es start end ts → (o : Option ℕ) → First (broken es rows ts) (length rows) o → Checked es rows start end ts (unless RowBroken o (Ok tt))
-  by_rows so None none = turns_sound refl (record {
-    sized = so.flowing.counted.sized;
-    few = so.flowing.counted.few;
-    balanced = so.flowing.balanced;
-    onward = so.onward;
-    keeps = All-from_get_or (Keeps es ts) rows no_row (λ i low. keeping es rows ts i (none i low));
-  })
-  by_rows so (Some i) found = row_broken i refl so
-      (record { place = found.0; fails = breaking es rows ts i found.1; lowest = λ j low. keeping es rows ts j (found.2 j low) })
-
-  by_onward : Flowing es start end ts → (o : Option ℕ) → First (stranded es end ts) (length es) o → Checked es rows start end ts (unless Stranded o kept_next)
-  unfolding kept_next
-  by_onward so None none =
-      by_rows (record { flowing = so; onward = λ x low. onward es ts so.counted.sized end x low (none x low) })
-      (first (broken es rows ts) (length rows)) (first_says (broken es rows ts) (length rows))
-  by_onward so (Some x) found = edge_stranded x refl so (record {
-    place = found.0;
-    fails = not_onward es ts so.counted.sized end x found.0 found.1;
-    lowest = λ y low. onward es ts so.counted.sized end y (omega (arith, found.0)) (found.2 y low);
-  })
-
-  by_balance : Counted es ts → (o : Option ℕ) → First (unbalanced es start end ts) (node_count es) o → Checked es rows start end ts (unless Unbalanced o onward_next)
-  unfolding onward_next
-  by_balance so None none =
-      by_onward (record { counted = so; balanced = λ v node. balance es start end ts v (none v (node_below es v node)) })
-      (first (stranded es end ts) (length es)) (first_says (stranded es end ts) (length es))
-  by_balance so (Some v) found = node_unbalanced v refl so
-      (record { place = below_node es v found.0; fails = no_balance es start end ts v found.1; lowest = λ u low. balance es start end ts u (found.2 u low) })
-
-  by_range : length ts ≡ length es → (o : Option ℕ) → First (over ts) (length es) o → Checked es rows start end ts (unless Range o balance_next)
-  unfolding balance_next
-  by_range sized None none =
-      by_balance (record { sized = sized; few = λ x low. ltb-false 1048575 (get_or ts x 0) (none x low) })
-      (first (unbalanced es start end ts) (node_count es)) (first_says (unbalanced es start end ts) (node_count es))
-  by_range sized (Some x) found = turns_range x refl sized (record {
-    place = found.0;
-    fails = λ few. omega (arith, ltb-true 1048575 (get_or ts x 0) found.1);
-    lowest = λ y low. ltb-false 1048575 (get_or ts y 0) (found.2 y low);
-  })
-
-  checked : Checked es rows start end ts (turns_answer es rows start end ts)
-  unfolding balance_next onward_next kept_next
-  checked = go (eqb (length ts) (length es)) refl
-    where
-      go : (b : Bool) → eqb (length ts) (length es) ≡ b → Checked es rows start end ts (ask b Count (unless Range (first (over ts) (length es)) balance_next))
-      go true h = by_range (eqb-true (length ts) (length es) h) (first (over ts) (length es)) (first_says (over ts) (length es))
-      go false h = turns_count refl (eqb-false (length ts) (length es) h)
+  checked : Says (turns_answer es rows start end ts)
+  checked =
+      by_ask Says _ Count _ (λ off. turns_count refl (eqb-false _ _ off)) (λ same.
+      let sized = eqb-true (length ts) (length es) same in
+      first_says (asked Range _) (λ x. x < length es) (InRange ts) (over ts) (length es) (λ x low. low) (λ x low. low)
+      (λ x low. (λ h. grind (arith, nat_tests), λ h. grind (arith, nat_tests))) (λ x. turns_range x refl sized) (λ few.
+      let counted : Counted es ts = record { sized = sized; few = few } in
+      first_says (asked Unbalanced _) (Node es) (Balanced es start end ts) (unbalanced es start end ts) (node_count es) (node_below es) (below_node es)
+      (λ v low. balanced_tells es start end ts v) (λ v. node_unbalanced v refl counted) (λ balanced.
+      let flowing : Flowing es start end ts = record { counted = counted; balanced = balanced } in
+      first_says (asked Stranded _) (λ x. x < length es) (Onward es end ts) (stranded es end ts) (length es) (λ x low. low) (λ x low. low)
+      (onward_tells es ts sized end) (λ x. edge_stranded x refl flowing) (λ on.
+      first_says (asked RowBroken _) (λ i. i < length rows) (λ i. Keeps es ts (row_at rows i)) (broken es rows ts) (length rows) (λ i low. low) (λ i low. low)
+      (λ i low. keeps_tells es rows ts i) (λ i. row_broken i refl (record { flowing = flowing; onward = on })) (λ keep.
+      turns_sound refl (record { sized = sized; few = few; balanced = balanced; onward = on; keeps = All-from_get_or (Keeps es ts) rows no_row keep }))))))
 
   pub answers : (r : Result (Unit {0}) TurnsFault) → r ≡ turns_answer es rows start end ts → Checked es rows start end ts r
   answers r is = subst (Checked es rows start end ts) (sym is) checked
@@ -82,21 +58,10 @@ module _ (es : List Edge) (rows : List Row) (start end : ℕ) (ts : List ℕ) wh
   -- ---- sound turns are accepted, and nothing else
 
   module _ (r : Result (Unit {0}) TurnsFault) where
-    accepted : Checked es rows start end ts r → r ≡ Ok tt → Sound es rows start end ts
-    accepted (turns_count is off) ok = cc
-    accepted (turns_range x is sized low) ok = cc
-    accepted (node_unbalanced v is so low) ok = cc
-    accepted (edge_stranded x is so low) ok = cc
-    accepted (row_broken i is so low) ok = cc
-    accepted (turns_sound is sound) ok = sound
-
-    accepts : Checked es rows start end ts r → Sound es rows start end ts → r ≡ Ok tt
-    accepts (turns_count is off) want = absurd (off want.sized)
-    accepts (turns_range x is sized low) want = absurd (low.fails (want.few x low.place))
-    accepts (node_unbalanced v is so low) want = absurd (low.fails (want.balanced v low.place))
-    accepts (edge_stranded x is so low) want = absurd (low.fails (want.onward x low.place))
-    accepts (row_broken i is so low) want = absurd (low.fails (All-get_or (Keeps es ts) rows i no_row low.place want.keeps))
-    accepts (turns_sound is sound) want = is
-
     pub exactly : Checked es rows start end ts r → (r ≡ Ok tt) ↔ Sound es rows start end ts
-    exactly says = (accepted says, accepts says)
+    exactly (turns_count is off) = (λ ok. cc, λ want. absurd (off want.sized))
+    exactly (turns_range x is sized low) = (λ ok. cc, λ want. absurd (low.fails (want.few x low.place)))
+    exactly (node_unbalanced v is so low) = (λ ok. cc, λ want. absurd (low.fails (want.balanced v low.place)))
+    exactly (edge_stranded x is so low) = (λ ok. cc, λ want. absurd (low.fails (want.onward x low.place)))
+    exactly (row_broken i is so low) = (λ ok. cc, λ want. absurd (low.fails (All-get_or (Keeps es ts) rows i no_row low.place want.keeps)))
+    exactly (turns_sound is sound) = (λ ok. sound, λ want. is)

@@ -1,17 +1,15 @@
 pub mod Lowest
 pub mod Joined
-pub mod Only
+pub mod FirstAndOnly
 pub mod Reach
-pub mod Spreads
+pub mod Marks
 pub mod Seals
-pub mod Linear
-pub mod ByPlaces
-mod Padded
-pub mod Rests
+pub mod EdgeSums
 mod ByEdges
+pub mod ByPlaces
 pub mod Flows
 pub mod Checks
-mod Costs
-pub mod Words
+mod PriceSums
+pub mod LibraryCalls
 pub mod Smalls
 pub mod Made

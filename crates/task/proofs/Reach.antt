@@ -1,19 +1,20 @@
 -- The goal is reached over live links exactly if it is within one more of them than there are.
-use Rattle.std.proofs.Common.{◌≡◌, ℕ, zero, suc, ◌<◌, ◌≤◌, Bool, true, ◌&&◌, eqb, ◌⊎◌, List, [], ◌∷◌, length, sym, subst, inl, inr, ⊎_elim, arith}
-use Rattle.std.proofs.lemmas.Bool.{eqb-true, eq-eqb, ltb-true, lt-ltb, and_parts, and_from, or_cases, or_left, or_right, cases_lt}
+use Rattle.std.proofs.Common.{◌≡◌, ℕ, zero, suc, ◌<◌, ◌≤◌, Bool, true, false, ◌&&◌, eqb, ◌⊎◌, List, [], ◌∷◌, ◌++◌, length, sym, refl, subst, inl, inr, ⊎_elim, arith}
+use Rattle.std.specs.List.{AllByRecursion, IsDistinct, list_any}
+use Rattle.std.proofs.lemmas.Bool.{both_ways, eqb-true, eq-eqb, ltb-true, lt-ltb, and_parts, and_from, or_cases, or_left, or_parts, cases_Bool}
+use Rattle.std.proofs.lemmas.Bool.Decides.{nat_tests}
+use Rattle.std.proofs.lemmas.Map.Keys.{IsDistinct-tail, IsDistinct-cons}
+use Rattle.std.proofs.lemmas.Map.Steps.{length-le_from_distinct_below}
 use Rattle.task.specs.Lowest.{lowest}
 use Rattle.task.specs.Ways.{Way, hop, within}
-use Rattle.task.proofs.Lowest.{lowest_passes, lowest_le, count, count_le, Under, count_grows}
+use Rattle.task.proofs.Lowest.{lowest_passes, lowest_le}
 
 module _ (n : ℕ) (from to : ℕ → ℕ) (live : ℕ → Bool) (goal : ℕ) where
   pub hop_from : (v x : ℕ) → from x ≡ v → live x ≡ true → hop n from to live v x ≡ true
   hop_from v x e h = and_from (eqb (from x) v) (live x) (eq-eqb (from x) v e) h
 
-  pub hop_leaves : (v x : ℕ) → hop n from to live v x ≡ true → from x ≡ v
-  hop_leaves v x h = eqb-true (from x) v (and_parts (eqb (from x) v) (live x) h).0
-
-  pub hop_live : (v x : ℕ) → hop n from to live v x ≡ true → live x ≡ true
-  hop_live v x h = (and_parts (eqb (from x) v) (live x) h).1
+  hop_tells : (v x : ℕ) → hop n from to live v x ≡ true → (from x ≡ v) × (live x ≡ true)
+  hop_tells v x h = let parts = and_parts (eqb (from x) v) (live x) h in (eqb-true (from x) v parts.0, parts.1)
 
   -- a live link from v to a node within k
   pub record Onward (k v : ℕ) : Type 0 where
@@ -26,115 +27,82 @@ module _ (n : ℕ) (from to : ℕ → ℕ) (live : ℕ → Bool) (goal : ℕ) wh
   within_end zero v e = eq-eqb v goal e
   within_end (suc k) v e = or_left (eqb v goal) _ (eq-eqb v goal e)
 
+  -- link x is live, leaves v, and leads to a node within k
+  abbrev leads : ℕ → ℕ → ℕ → Bool
+  leads k v x = hop n from to live v x && within n from to live goal k (to x)
+
   pub within_on : (k v : ℕ) → Onward k v → within n from to live goal (suc k) v ≡ true
-  within_on k v on = or_right (eqb v goal) _
-      (lt-ltb (lowest test n) n (omega (arith, on.link, lowest_le test n on.number (and_from (hop n from to live v on.number) _ on.hops on.near))))
-    where
-      test : ℕ → Bool
-      test x = hop n from to live v x && within n from to live goal k (to x)
+  within_on k v on = grind (arith, nat_tests, on.link, lowest_le (leads k v) n on.number (and_from _ _ on.hops on.near))
 
   pub within_cases : (k v : ℕ) → within n from to live goal (suc k) v ≡ true → (v ≡ goal) ⊎ Onward k v
-  within_cases k v h = ⊎_elim (λ e. inl (eqb-true v goal e)) (λ t. inr (on (ltb-true (lowest test n) n t))) (or_cases (eqb v goal) _ h)
-    where
-      test : ℕ → Bool
-      test x = hop n from to live v x && within n from to live goal k (to x)
+  within_cases k v h = ⊎_elim
+      (λ e. inl (eqb-true v goal e))
+      (λ t.
+      let x = lowest (leads k v) n in
+      let parts = and_parts (hop n from to live v x) _ (lowest_passes (leads k v) n (ltb-true x n t)) in
+      inr (record { number = x; link = ltb-true x n t; hops = parts.0; near = parts.1 }))
+      (or_cases (eqb v goal) _ h)
 
-      on : lowest test n < n → Onward k v
-      on low =
-          let parts = and_parts (hop n from to live v (lowest test n)) (within n from to live goal k (to (lowest test n))) (lowest_passes test n low) in
-          record { number = lowest test n; link = low; hops = parts.0; near = parts.1 }
+  -- a way that is no longer than k
+  way_within : (xs : List ℕ) (k v : ℕ) → length xs ≤ k → Way n from to live v goal xs → within n from to live goal k v ≡ true
+  way_within [] k v short e = within_end k v e
+  way_within (x ∷ xs) zero v short w = absurd (omega arith)
+  way_within (x ∷ xs) (suc k) v short w = within_on k v (record { number = x; link = w.0; hops = hop_from v x w.1 w.2; near = way_within xs k (to x) (omega arith) w.3 })
 
-  onward_more : (k j v : ℕ) → Onward k v → ((u : ℕ) → within n from to live goal k u ≡ true → within n from to live goal j u ≡ true) → Onward j v
-  onward_more k j v on f = record { number = on.number; link = on.link; hops = on.hops; near = f (to on.number) on.near }
-
-  within_more : (k v : ℕ) → within n from to live goal k v ≡ true → within n from to live goal (suc k) v ≡ true
-  within_more zero v h = within_end 1 v (eqb-true v goal h)
-  within_more (suc k) v h = ⊎_elim (λ e. within_end (suc (suc k)) v e) (λ on. within_on (suc k) v (onward_more k (suc k) v on (within_more k))) (within_cases k v h)
-
-  within_mono : (j k v : ℕ) → j ≤ k → within n from to live goal j v ≡ true → within n from to live goal k v ≡ true
-  within_mono j zero v le h = let e : j ≡ zero = omega arith in subst (λ i. within n from to live goal i v ≡ true) e h
-  within_mono j (suc k) v le h = ⊎_elim
-      (λ (low : j < suc k). within_more k v (within_mono j k v (omega arith) h))
-      (λ (high : suc k ≤ j). let e : j ≡ suc k = omega arith in subst (λ i. within n from to live goal i v ≡ true) e h)
-      (cases_lt j (suc k))
-
-  way_within : (xs : List ℕ) (v : ℕ) → Way n from to live v goal xs → within n from to live goal (length xs) v ≡ true
-  way_within [] v e = within_end 0 v e
-  way_within (x ∷ xs) v p =
-      within_on (length xs) v (record { number = x; link = p.0; hops = hop_from v x p.1 p.2; near = way_within xs (to x) p.3 })
-
-  within_way : (k v : ℕ) → within n from to live goal k v ≡ true → (xs : List ℕ) × Way n from to live v goal xs
+  pub within_way : (k v : ℕ) → within n from to live goal k v ≡ true → (xs : List ℕ) × Way n from to live v goal xs
   within_way zero v h = ([], eqb-true v goal h)
   within_way (suc k) v h = ⊎_elim
       (λ e. ([], e))
-      (λ on. let rest = within_way k (to on.number) on.near in (on.number ∷ rest.0, (on.link, hop_leaves v on.number on.hops, hop_live v on.number on.hops, rest.1)))
+      (λ on. let rest = within_way k (to on.number) on.near in let hops = hop_tells v on.number on.hops in (on.number ∷ rest.0, (on.link, hops.0, hops.1, rest.1)))
       (within_cases k v h)
 
-  -- ---- no goal is farther than there are links, and one
+  -- ---- a way that takes no link twice
 
-  -- the live links that lead to a node within k
-  near_by : ℕ → ℕ → Bool
-  near_by k x = live x && within n from to live goal k (to x)
+  record Simple (v : ℕ) : Type 0 where
+    links : List ℕ
+    way : Way n from to live v goal links
+    once : IsDistinct eqb links
 
-  Stable : ℕ → Type 0
-  Stable j = Under (near_by (suc j)) (near_by j) n
+  -- a link of such a way exists, and the way from its last place on is one
+  from_link : (x : ℕ) (xs : List ℕ) (v : ℕ) → Way n from to live v goal xs → IsDistinct eqb xs → list_any (eqb x) xs ≡ true → (x < n) × Simple (from x)
+  from_link x [] v w once h = absurd (both_ways false refl h)
+  from_link x (y ∷ ys) v w once h = ⊎_elim
+      (λ same. let is : x ≡ y = eqb-true x y same in rw is (w.0, record { links = y ∷ ys; way = (w.0, refl, w.2, w.3); once = once }))
+      (λ later. from_link x ys (to y) w.3 (IsDistinct-tail eqb y ys once) later)
+      (or_cases (eqb x y) (list_any (eqb x) ys) h)
 
-  near_more : (k : ℕ) → Under (near_by k) (near_by (suc k)) n
-  unfolding near_by
-  near_more k x h t =
-      let parts = and_parts (live x) (within n from to live goal k (to x)) t in
-      and_from (live x) _ parts.0 (within_more k (to x) parts.1)
+  apart : (x : ℕ) (xs : List ℕ) → list_any (eqb x) xs ≡ false → AllByRecursion (λ y. eqb x y ≡ false) xs
+  apart x [] h = tt
+  apart x (y ∷ ys) h = let parts = or_parts (eqb x y) (list_any (eqb x) ys) h in (parts.0, apart x ys parts.1)
 
-  stable_step : (j v : ℕ) → Stable j → within n from to live goal (suc (suc j)) v ≡ true → within n from to live goal (suc j) v ≡ true
-  unfolding Stable near_by
-  stable_step j v st h = ⊎_elim (λ e. within_end (suc j) v e) (λ on. within_on j v (back on)) (within_cases (suc j) v h)
-    where
-      back : Onward (suc j) v → Onward j v
-      back on =
-          let x = on.number in
-          let t = st x on.link (and_from (live x) (within n from to live goal (suc j) (to x)) (hop_live v x on.hops) on.near) in
-          record { number = x; link = on.link; hops = on.hops; near = (and_parts (live x) (within n from to live goal j (to x)) t).1 }
-
-  stable_all : (j k v : ℕ) → Stable j → within n from to live goal k v ≡ true → within n from to live goal (suc j) v ≡ true
-  stable_all j zero v st h = within_end (suc j) v (eqb-true v goal h)
-  stable_all j (suc k) v st h = ⊎_elim
-      (λ e. within_end (suc j) v e)
-      (λ on. stable_step j v st (within_on (suc j) v (onward_more k (suc j) v on (λ u. stable_all j k u st))))
-      (within_cases k v h)
-
-  record Settled (k : ℕ) : Type 0 where
-    round : ℕ
-    early : round < k
-    stable : Stable round
-
-  -- each round before it settles brings a link
-  settles : (k : ℕ) → Settled k ⊎ (k ≤ count (near_by k) n)
-  settles zero = inr (omega arith)
-  settles (suc k) = go (settles k) (count_grows (near_by k) (near_by (suc k)) n (near_more k))
-    where
-      go : Settled k ⊎ (k ≤ count (near_by k) n) →
-          Under (near_by (suc k)) (near_by k) n ⊎ (count (near_by k) n < count (near_by (suc k)) n) →
-          Settled (suc k) ⊎ (suc k ≤ count (near_by (suc k)) n)
-      go (inl s) grows = inl (record { round = s.round; early = omega (arith, s.early); stable = s.stable })
-      go (inr many) (inl same) = inl (record { round = k; early = omega arith; stable = unfold Stable in same })
-      go (inr many) (inr more) = inr (omega arith)
-
-  pub within_bound : (k v : ℕ) → within n from to live goal k v ≡ true → within n from to live goal (suc n) v ≡ true
-  within_bound k v h = ⊎_elim
-      (λ s. within_mono (suc s.round) (suc n) v (omega (arith, s.early)) (stable_all s.round k v s.stable h))
-      (λ many. absurd (omega (arith, many, count_le (near_by (suc n)) n)))
-      (settles (suc n))
+  simple : (xs : List ℕ) (v : ℕ) → Way n from to live v goal xs → Simple v
+  simple [] v w = record { links = []; way = w; once = unfold IsDistinct in tt }
+  simple (x ∷ xs) v w =
+      let rest = simple xs (to x) w.3 in
+      ⊎_elim
+        (λ again. rw w.1 at ((from_link x rest.links (to x) rest.way rest.once again).1))
+        (λ new. record { links = x ∷ rest.links; way = (w.0, w.1, w.2, rest.way); once = IsDistinct-cons eqb x rest.links (apart x rest.links new) rest.once })
+        (cases_Bool (list_any (eqb x) rest.links))
 
   -- ---- both ways
 
-  pub reach_way : (v : ℕ) → within n from to live goal (suc n) v ≡ true → (xs : List ℕ) × Way n from to live v goal xs
-  reach_way v h = within_way (suc n) v h
-
   pub way_reach : (v : ℕ) (xs : List ℕ) → Way n from to live v goal xs → within n from to live goal (suc n) v ≡ true
-  way_reach v xs w = within_bound (length xs) v (way_within xs v w)
+  way_reach v xs w =
+      let short = simple xs v w in
+      way_within short.links (suc n) v (omega (arith, length-le_from_distinct_below short.links n short.once (λ q h. (from_link q short.links v short.way short.once h).0))) short.way
+
+  pub within_bound : (k v : ℕ) → within n from to live goal k v ≡ true → within n from to live goal (suc n) v ≡ true
+  within_bound k v h = let way = within_way k v h in way_reach v way.0 way.1
 
   -- marks that hold of the goal and spread back over every live link hold wherever the goal is reached
   pub spread_way : (marks : ℕ → Bool) → marks goal ≡ true → ((x : ℕ) → x < n → live x ≡ true → marks (to x) ≡ true → marks (from x) ≡ true) →
       (xs : List ℕ) (v : ℕ) → Way n from to live v goal xs → marks v ≡ true
   spread_way marks at spread [] v e = subst (λ u. marks u ≡ true) (sym e) at
   spread_way marks at spread (x ∷ xs) v w = subst (λ u. marks u ≡ true) w.1 (spread x w.0 w.2 (spread_way marks at spread xs (to x) w.3))
+
+-- ---- the same way, the other way round
+
+-- a way, and what was taken before it
+pub way_back : (n : ℕ) (from to : ℕ → ℕ) (live : ℕ → Bool) (u w z : ℕ) (xs ys : List ℕ) → Way n from to live u w xs → Way n to from live u z ys → (zs : List ℕ) × Way n to from live w z zs
+way_back n from to live u w z [] ys p q = (ys, rw p at q)
+way_back n from to live u w z (x ∷ xs) ys p q = way_back n from to live (to x) w z xs (x ∷ ys) p.3 (p.0, refl, p.2, rw p.1 q)

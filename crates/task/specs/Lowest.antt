@@ -1,5 +1,5 @@
 -- The lowest number that passes a test, and the only one. To compute with.
-use Rattle.std.specs.Prelude.{◌≡◌, ℕ, zero, suc, ◌<◌, ◌≤◌, Bool, true, false, cond, ◌&&◌, Some, None, Option, MatchOption, nat_lt}
+use Rattle.std.specs.Prelude.{ℕ, zero, suc, ◌<◌, ◌≤◌, Bool, cond, IsTrue, IsFalse, ◌&&◌, Some, None, Option, MatchOption, nat_lt}
 
 abbrev pub one_if : Bool → ℕ
 one_if b = cond b 1 0
@@ -22,4 +22,4 @@ sole p n = cond (nat_lt (lowest (λ v. p v && nat_lt (lowest p n) v) n) n) None 
 
 -- the lowest number from a up to b that passes the test
 abbrev pub FirstFrom : (ℕ → Bool) → ℕ → ℕ → Option ℕ → Type 0
-FirstFrom p a b found = MatchOption found ((v : ℕ) → a ≤ v → v < b → p v ≡ false) (λ x. (a ≤ x) × (x < b) × (p x ≡ true) × ((v : ℕ) → a ≤ v → v < x → p v ≡ false))
+FirstFrom p a b found = MatchOption found ((v : ℕ) → a ≤ v → v < b → IsFalse (p v)) (λ x. (a ≤ x) × (x < b) × IsTrue (p x) × ((v : ℕ) → a ≤ v → v < x → IsFalse (p v)))

@@ -1,5 +1,5 @@
 -- The rows of a task, and the runs that keep them.
-use Rattle.std.specs.Prelude.{◌≡◌, ℕ, suc, true, List, [], ◌∷◌, length, ℤ, pos, ◌+ℤ◌, ◌*ℤ◌, ◌≤ℤ◌, ◌<ℤ◌, slice_index_or, All}
+use Rattle.std.specs.Prelude.{◌≡◌, ℕ, suc, IsTrue, List, [], ◌∷◌, length, ℤ, pos, ◌+ℤ◌, ◌*ℤ◌, ◌≤ℤ◌, ◌<ℤ◌, slice_index_or, All}
 use Rattle.price.specs.Ranges.{Within}
 use Rattle.task.specs.Coefficients.{all_small}
 use Rattle.task.specs.declared.edges.Edge.{Edge}
@@ -18,7 +18,7 @@ pub record Row : Type 0 where
 pub record IsRow (k : ℤ) (coefficients : List ℤ) : Type 0 where
   pub k_fits : Within 1048576 k
   pub every_block : length coefficients ≡ 64
-  pub all_fit : all_small coefficients ≡ true
+  pub all_fit : IsTrue (all_small coefficients)
 
 -- the coefficient of a block: 0 past the list
 abbrev pub coefficient : Row → ℕ → ℤ

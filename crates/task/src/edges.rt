@@ -1,5 +1,5 @@
 // The edges of a graph.
-ghost use Rattle.std.specs.Prelude.{◌≡◌, Decides, nat_le};
+ghost use Rattle.std.specs.Prelude.{◌≡◌, ◌↔◌, IsTrue, nat_le};
 ghost use Rattle.price.specs.Questions.{ask};
 ghost use Rattle.task.specs.Edges.{edge_made, repeated, Repeats};
 ghost use Rattle.task.specs.Sides.{end_at, other_side};
@@ -111,7 +111,7 @@ impl Side {
 /// Whether some edge of the list has the tail and the head of this one.
 pub fn repeats(edges: &[Edge], edge: &Edge) -> bool
     ensures answer { result ≡ repeated edge.now edges.now }
-    ensures means { Decides result (Repeats edges.now edge.now) }
+    ensures means { IsTrue result ↔ Repeats edges.now edge.now }
 {
     edges
         .iter()

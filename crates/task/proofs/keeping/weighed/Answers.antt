@@ -2,5 +2,5 @@ use Rattle.std.proofs.Common.{arith}
 use Rattle.std.proofs.lemmas.Grind.{common_steps}
 use Rattle.task.proofs.keeping.weighed.Goals as goal
 
-pub returns-clause-small : goal.returns-clause-small
-returns-clause-small c = grind (arith, common_steps)
+pub returns-clause-value : goal.returns-clause-value
+returns-clause-value c = grind (arith, common_steps)

@@ -4,7 +4,7 @@ use Rattle.std.proofs.lemmas.Iterator.Adapters.{option_map_id}
 use Rattle.std.proofs.lemmas.Iterator.{YieldsList-from_slice, YieldsList-from_map}
 use Rattle.std.proofs.lemmas.Iterator.Consumers.{YieldsList-at, max_from_yields_List}
 use Rattle.task.specs.declared.edges.Edge.{Edge}
-use Rattle.task.proofs.Words.{one_past_highest}
+use Rattle.task.proofs.LibraryCalls.{one_past_highest}
 use Rattle.task.proofs.sealing.nodes.Goals as goal
 
 pub returns-clause-count : goal.returns-clause-count

@@ -1,7 +1,7 @@
 use Rattle.std.proofs.Common.{length, sym, ap, ◌∙◌, arith, rules}
 use Rattle.std.proofs.lemmas.Grind.{common_steps}
 use Rattle.task.specs.Coefficients.{all_small}
-use Rattle.task.proofs.Padded.{length_padded, padded_small}
+use Rattle.task.proofs.Smalls.{length_padded, padded_small}
 use Rattle.task.proofs.rows.Row.new.Goals as goal
 
 pub invariant_of-result : goal.invariant_of-result

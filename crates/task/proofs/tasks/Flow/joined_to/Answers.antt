@@ -1,5 +1,5 @@
 use Rattle.std.proofs.Common.{◌<◌, true, subst, rules}
-use Rattle.task.proofs.Spreads.{Marked, only_goal, marked_on, all_marked}
+use Rattle.task.proofs.Marks.{Marked, only_goal, marked_on, all_marked}
 use Rattle.task.proofs.tasks.Flow.joined_to.Goals as goal
 
 pub loop-settled-init : goal.loop-settled-init

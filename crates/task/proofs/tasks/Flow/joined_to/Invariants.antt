@@ -2,7 +2,7 @@
 use Rattle.std.proofs.Common.{◌+◌, not}
 use Rattle.task.specs.Lowest.{one_if}
 use Rattle.task.specs.Spreading.{unmarked}
-use Rattle.task.proofs.Spreads.{Marked}
+use Rattle.task.proofs.Marks.{Marked}
 use Rattle.task.proofs.tasks.Flow.joined_to.Given as goal
 
 abbrev pub invariant-loop-settled : goal.invariant-loop-settled

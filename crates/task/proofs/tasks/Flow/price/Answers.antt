@@ -1,18 +1,21 @@
-use Rattle.std.proofs.Common.{ap, subst, arith, rules}
+use Rattle.std.proofs.Common.{◌∙◌, subst, sym, arith, rules}
+use Rattle.price.proofs.PairSums.{parts}
 use Rattle.task.specs.Pricing.{Priced}
-use Rattle.task.specs.Turns.{price_in}
-use Rattle.task.proofs.Rests.{edge_read}
-use Rattle.task.proofs.Costs.{adding_more, adding_all, priced_small}
+use Rattle.task.proofs.ByPlaces.{price_weighed}
+use Rattle.task.proofs.EdgeSums.{edge_read}
+use Rattle.task.proofs.PriceSums.{adding_more, adding_all, small_price}
 use Rattle.task.proofs.tasks.Flow.price.Goals as goal
 
 pub loop-x-preserved : goal.loop-x-preserved
 loop-x-preserved c =
     let read = edge_read c.args.self.edges.now c.loop-x.x c.index-self-x.result c.index-self-x.is (omega arith) in
-    search (rules, adding_more, ap (λ e. price_in c.args.sense e) read)
+    search (rules, adding_more, read)
 
 pub returns-clause-price : goal.returns-clause-price
-returns-clause-price c = subst (λ a. Priced a c.priced.result)
-    (adding_all c.args.sense c.args.self.edges.now c.args.self.turns.now c.loop-x.x c.loop-x.cycles c.loop-x.reads c.loop-x.invariant (omega arith)) c.priced.ensures
+returns-clause-price c =
+    let es = c.args.self.edges.now in
+    let ts = c.args.self.turns.now in
+    subst (λ a. Priced a c.priced.result) (parts (adding_all _ es ts _ _ c.loop-x.invariant.0 (omega arith)) (adding_all _ es ts _ _ c.loop-x.invariant.1 (omega arith)) ∙ sym (price_weighed c.args.sense es ts)) c.priced.ensures
 
 pub returns-clause-small : goal.returns-clause-small
-returns-clause-small c = search (rules, priced_small)
+returns-clause-small c few all = search (rules, small_price, c.loop-x.invariant.0.small all, c.loop-x.invariant.1.small all)

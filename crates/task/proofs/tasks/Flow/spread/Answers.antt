@@ -3,7 +3,7 @@ use Rattle.std.proofs.lemmas.List.{get_or_default}
 use Rattle.task.specs.Graph.{no_edge}
 use Rattle.task.specs.Sides.{other_side, end_at, end_of}
 use Rattle.task.specs.Spreading.{is_marked}
-use Rattle.task.proofs.Spreads.{pass_marks}
+use Rattle.task.proofs.Marks.{pass_marks}
 use Rattle.task.proofs.tasks.Flow.spread.Goals as goal
 
 pub loop-x-preserved-then-is_live : goal.loop-x-preserved-then-is_live

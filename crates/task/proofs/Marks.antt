@@ -1,15 +1,28 @@
 -- Marks that spread over live edges, pass by pass.
-use Rattle.std.proofs.Common.{◌≡◌, ℕ, ◌+◌, ◌<◌, ◌≤◌, Bool, true, false, not, List, [], ◌∷◌, length, get_or, set, replicate, sym, refl, ap, ◌∙◌, subst, ⊎_elim, arith, length-set}
-use Rattle.std.proofs.lemmas.List.{get_or-set_same, get_or-set_other, get_or_past, get_or-replicate, length-replicate}
+use Rattle.std.proofs.Common.{◌≡◌, ℕ, suc, ◌+◌, ◌<◌, Bool, true, false, not, ◌⊎◌, List, [], ◌∷◌, length, get_or, set, replicate, refl, ap, ◌∙◌, ⊎_elim, arith, length-set}
+use Rattle.std.specs.List.{All}
+use Rattle.std.proofs.lemmas.Bool.Decides.{same_from_decides}
+use Rattle.std.proofs.lemmas.Grind.{get_or-set_at}
+use Rattle.std.proofs.lemmas.List.Elements.{All-replicate}
+use Rattle.std.proofs.lemmas.List.{get_or-set_same, get_or-set_other, get_or_past, length-replicate}
 use Rattle.std.proofs.lemmas.List.Sums.{sum_by-set}
-use Rattle.std.proofs.lemmas.Bool.{both_ways, cases_eq, cases_lt}
+use Rattle.std.proofs.lemmas.Bool.{both_ways}
 use Rattle.task.specs.declared.edges.Edge.{Edge}
 use Rattle.task.specs.declared.edges.Side.{Side}
 use Rattle.task.specs.Lowest.{one_if}
 use Rattle.task.specs.Sides.{other_side, end_of, is_live, reaches}
 use Rattle.task.specs.Spreading.{Spread, is_marked, unmarked, Pass}
 use Rattle.task.specs.Ways.{Way}
-use Rattle.task.proofs.Reach.{reach_way, way_reach, spread_way}
+use Rattle.task.proofs.Reach.{within_way, way_reach, spread_way}
+
+-- ---- one mark more
+
+module _ (marks : List Bool) (u v : ℕ) where
+  mark_kept : u < length marks → is_marked marks v ≡ true → is_marked (set marks u true) v ≡ true
+  mark_kept small m = grind (arith, get_or-set_at marks u v true false, get_or-set_other marks u v true false)
+
+  mark_cases : is_marked (set marks u true) v ≡ true → (v ≡ u) ⊎ (is_marked marks v ≡ true)
+  mark_cases m = grind (arith, get_or-set_other marks u v true false)
 
 -- ---- one pass, from the last edge to the first
 
@@ -20,14 +33,11 @@ module _ (es : List Edge) (ts : List ℕ) (side : Side) (before after : List Boo
       let u = end_of es side x in
       record {
         sized = length-set after u true ∙ pass.sized;
-        keeps = λ v m. ⊎_elim
-            (λ (e : v ≡ u). subst (λ w. is_marked (set after u true) w ≡ true) (sym e) (get_or-set_same after u true false small))
-            (λ (ne : v ≡ u → ⊥). get_or-set_other after u v true false ne ∙ pass.keeps v m)
-            (cases_eq v u);
+        keeps = λ v m. mark_kept after u v small (pass.keeps v m);
         right = λ p spreads so v m. ⊎_elim
-            (λ (e : v ≡ u). subst (λ w. p w ≡ true) (sym e) (spreads x low on (pass.right p spreads so (end_of es (other_side side) x) there)))
-            (λ (ne : v ≡ u → ⊥). pass.right p spreads so v (sym (get_or-set_other after u v true false ne) ∙ m))
-            (cases_eq v u);
+            (λ (e : v ≡ u). rw e (spreads x low on (pass.right p spreads so (end_of es (other_side side) x) there)))
+            (λ was. pass.right p spreads so v was)
+            (mark_cases after u v m);
         done = λ s. absurd (both_ways false refl s);
         fewer =
             let one : unmarked (set after u true) + one_if (not (get_or after u false)) ≡ unmarked after + 0 = sum_by-set (λ m. one_if (not m)) after u true false small in
@@ -46,7 +56,7 @@ pub record Marked (es : List Edge) (ts : List ℕ) (side : Side) (goal : ℕ) (m
 module _ (es : List Edge) (ts : List ℕ) (side : Side) (goal : ℕ) where
   pub reached_way : (v : ℕ) → reaches es ts side goal v ≡ true → (xs : List ℕ) × Way (length es) (end_of es side) (end_of es (other_side side)) (is_live ts) v goal xs
   unfolding reaches
-  reached_way v h = reach_way (length es) (end_of es side) (end_of es (other_side side)) (is_live ts) goal v h
+  reached_way v h = within_way (length es) (end_of es side) (end_of es (other_side side)) (is_live ts) goal (suc (length es)) v h
 
   pub way_reached : (v : ℕ) (xs : List ℕ) → Way (length es) (end_of es side) (end_of es (other_side side)) (is_live ts) v goal xs → reaches es ts side goal v ≡ true
   unfolding reaches
@@ -55,25 +65,16 @@ module _ (es : List Edge) (ts : List ℕ) (side : Side) (goal : ℕ) where
   reaches_on : (x : ℕ) → x < length es → is_live ts x ≡ true → reaches es ts side goal (end_of es (other_side side) x) ≡ true → reaches es ts side goal (end_of es side x) ≡ true
   reaches_on x low on h = let way = reached_way (end_of es (other_side side) x) h in way_reached (end_of es side x) (x ∷ way.0) (low, refl, on, way.1)
 
-  reaches_goal : reaches es ts side goal goal ≡ true
-  reaches_goal = way_reached goal [] refl
-
   pub only_goal : goal < 32 → Marked es ts side goal (set (replicate 32 false) goal true) false
-  only_goal low = record {
-    sized = length-set (replicate 32 false) goal true ∙ length-replicate 32 false;
-    right = λ v m. ⊎_elim
-        (λ (e : v ≡ goal). subst (λ w. reaches es ts side goal w ≡ true) (sym e) reaches_goal)
-        (λ (ne : v ≡ goal → ⊥). absurd (both_ways (get_or (replicate 32 false) v false) (blank v) (sym (get_or-set_other (replicate 32 false) goal v true false ne) ∙ m)))
-        (cases_eq v goal);
-    at_goal = get_or-set_same (replicate 32 false) goal true false (omega (arith, length-replicate 32 false));
-    done = λ s. absurd (both_ways false refl s);
-  }
-    where
-      blank : (v : ℕ) → get_or (replicate 32 false) v false ≡ false
-      blank v = ⊎_elim
-          (λ (h : v < 32). get_or-replicate 32 v false false h)
-          (λ (h : 32 ≤ v). get_or_past (replicate 32 false) v false (omega (arith, length-replicate 32 false)))
-          (cases_lt v 32)
+  only_goal low =
+      let none : All (λ b. b ≡ false) (replicate 32 false) = All-replicate (λ b. b ≡ false) 32 false refl in
+      let blank : (v : ℕ) → get_or (replicate 32 false) v false ≡ false = λ v. grind (arith, none v false, get_or_past (replicate 32 false) v false) in
+      record {
+        sized = length-set (replicate 32 false) goal true ∙ length-replicate 32 false;
+        right = λ v m. ⊎_elim (λ (e : v ≡ goal). rw e (way_reached goal [] refl)) (λ was. absurd (both_ways _ (blank v) was)) (mark_cases (replicate 32 false) goal v m);
+        at_goal = get_or-set_same (replicate 32 false) goal true false (omega (arith, length-replicate 32 false));
+        done = λ s. absurd (both_ways false refl s);
+      }
 
   pub marked_on : (before after : List Bool) (was settled : Bool) → Marked es ts side goal before was → Pass es ts side before after settled 0 → Marked es ts side goal after settled
   marked_on before after was settled marked pass = record {
@@ -85,13 +86,9 @@ module _ (es : List Edge) (ts : List ℕ) (side : Side) (goal : ℕ) where
 
   -- when nothing more spreads, the marks are the nodes from which the goal is reached
   pub all_marked : (marks : List Bool) → Marked es ts side goal marks true → (v : ℕ) → get_or marks v false ≡ reaches es ts side goal v
-  all_marked marks r v = go (get_or marks v false) refl (reaches es ts side goal v) refl
-    where
-      go : (a : Bool) → get_or marks v false ≡ a → (b : Bool) → reaches es ts side goal v ≡ b → a ≡ b
-      go true p true q = refl
-      go false p false q = refl
-      go true p false q = absurd (both_ways (reaches es ts side goal v) q (r.right v p))
-      go false p true q =
-          let way = reached_way v q in
-          absurd (both_ways (get_or marks v false) p
-          (spread_way (length es) (end_of es side) (end_of es (other_side side)) (is_live ts) goal (λ u. get_or marks u false) r.at_goal (r.done refl) way.0 v way.1))
+  all_marked marks r v = same_from_decides (get_or marks v false) (reaches es ts side goal v) (
+    r.right v,
+    λ q.
+        let way = reached_way v q in
+        spread_way (length es) (end_of es side) (end_of es (other_side side)) (is_live ts) goal (λ u. get_or marks u false) r.at_goal (r.done refl) way.0 v way.1,
+  ) (λ q. q, λ q. q)
