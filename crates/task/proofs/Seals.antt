@@ -1,5 +1,5 @@
 -- What the answer of `ends` says of nodes and paths.
-use Rattle.std.proofs.Common.{◌≡◌, ℕ, suc, ◌+◌, ◌<◌, ◌≤◌, max, true, false, eqb, ◌⊎◌, ◌↔◌, List, [], ◌∷◌, length, Some, None, Ok, Option, Result, ◌≢◌, not, sym, refl, ◌∙◌, subst, inl, inr, ⊎_elim, arith}
+use Rattle.std.proofs.Common.{◌≡◌, ℕ, suc, ◌+◌, ◌<◌, ◌≤◌, max, true, eqb, ◌⊎◌, ◌↔◌, List, [], ◌∷◌, length, Some, None, Ok, Option, Result, ◌≢◌, not, sym, refl, ◌∙◌, subst, inl, inr, ⊎_elim, arith}
 use Rattle.std.specs.Bool.{Decides}
 use Rattle.std.specs.List.{All}
 use Rattle.std.proofs.lemmas.Bool.{both_ways, eq-eqb, ne_eqb, and_parts, and_from, not-true, not-false, not_from_true, not_from_false}
@@ -9,7 +9,7 @@ use Rattle.task.specs.declared.edges.Edge.{Edge}
 use Rattle.task.specs.declared.edges.Side.{Side}
 use Rattle.task.specs.declared.edges.Side.TheVariants.{Tail, Head}
 use Rattle.task.specs.declared.faults.GraphFault.{GraphFault}
-use Rattle.task.specs.Lowest.{sole, first}
+use Rattle.task.specs.Lowest.{sole}
 use Rattle.task.specs.Ways.{Way}
 use Rattle.task.specs.Graph.{no_edge, tail_of, head_of, Node, Start, End, Path}
 use Rattle.task.specs.Sides.{end_at, end_of, node_count, touched, untouched, is_live, reaches}
