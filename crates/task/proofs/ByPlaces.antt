@@ -3,6 +3,7 @@ use Rattle.std.proofs.Common.{◌≡◌, ℕ, ◌+◌, ◌<◌, ◌≤◌, min, 
 use Rattle.std.proofs.lemmas.Int.{ints}
 use Rattle.std.proofs.lemmas.List.Elements.{All-nil, All-cons, All-weaker}
 use Rattle.std.proofs.lemmas.List.Recursion.{same_from_clauses}
+use Rattle.price.specs.Pairs.{◌⊕◌}
 use Rattle.price.proofs.PairSums.{parts}
 use Rattle.price.specs.declared.senses.Sense.{Sense}
 use Rattle.price.specs.declared.senses.Sense.TheVariants.{Longest}
@@ -34,14 +35,6 @@ turns_weighed p [] ts = refl
 turns_weighed p (e ∷ es) [] = refl
 turns_weighed p (e ∷ es) (t ∷ ts) = grind (arith, ints, turns_weighed p es ts)
 
-pub turns_next : (p : Edge → Bool) (es : List Edge) (ts : List ℕ) (x : ℕ) → x < length es →
-    turns_by p (drop x es) (drop x ts) ≡ cond (p (edge_at es x)) (get_or ts x 0) 0 + turns_by p (drop (x + 1) es) (drop (x + 1) ts)
-turns_next p es ts x low =
-    grind (arith, ints, turns_weighed p (drop x es) (drop x ts), turns_weighed p (drop (x + 1) es) (drop (x + 1) ts), weighed_next (λ e. pos (one_if (p e))) es ts x low)
-
-pub turns_done : (p : Edge → Bool) (es : List Edge) (ts : List ℕ) (x : ℕ) → min (length es) (length ts) ≤ x → turns_by p (drop x es) (drop x ts) ≡ 0
-turns_done p es ts x high = omega (arith, ints, turns_weighed p (drop x es) (drop x ts), weighed_done (λ e. pos (one_if (p e))) es ts x high)
-
 places_weighed : (es : List Edge) (b : ℕ) (run : List ℕ) → pos (places_of es b run) ≡ along (λ e. pos (one_if (eqb e.block b))) es run
 places_weighed es b [] = refl
 places_weighed es b (x ∷ run) = omega (arith, ints, places_weighed es b run)
@@ -58,10 +51,6 @@ price_weighed sense [] ts = refl
 price_weighed sense (e ∷ es) [] = refl
 price_weighed sense (e ∷ es) (t ∷ ts) = let rest = price_weighed sense es ts in parts (omega (arith, ints, ap (λ a. a.0) rest)) (omega (arith, ints, ap (λ a. a.1) rest))
 
-prices_weighed : (sense : Sense) (es : List Edge) (run : List ℕ) → prices_along sense es run ≡ (along (λ e. (edge_price sense e).0) es run, along (λ e. (edge_price sense e).1) es run)
-prices_weighed sense es [] = refl
-prices_weighed sense es (x ∷ run) = let rest = prices_weighed sense es run in parts (omega (arith, ints, ap (λ a. a.0) rest)) (omega (arith, ints, ap (λ a. a.1) rest))
-
 -- what a number past the last edge reads as costs nothing in any sense
 costs_nothing : (sense : Sense) → edge_price sense no_edge ≡ (pos 0, pos 0)
 costs_nothing Longest = refl
@@ -70,7 +59,7 @@ pub prices_by_places : (sense : Sense) (es : List Edge) (run : List ℕ) → run
 prices_by_places sense es run =
     price_weighed sense es (turns_in es run)
     ∙ parts (by_places (λ e. (edge_price sense e).0) es run (λ k d low high. ap (λ a. a.0) (costs_nothing sense))) (by_places (λ e. (edge_price sense e).1) es run (λ k d low high. ap (λ a. a.1) (costs_nothing sense)))
-    ∙ sym (prices_weighed sense es run)
+    ∙ same_from_clauses (λ xs. (along (λ e. (edge_price sense e).0) es xs, along (λ e. (edge_price sense e).1) es xs)) (prices_along sense es) (λ x a. edge_price sense (edge_at es x) ⊕ a) refl (λ x xs. refl) (λ x xs. refl) run
 
 -- ---- rows
 
