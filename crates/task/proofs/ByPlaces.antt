@@ -1,8 +1,10 @@
--- The turns of a block, the sum of a row and the price of a run, place by place.
-use Rattle.std.proofs.Common.{◌≡◌, ℕ, ◌+◌, ◌<◌, ◌≤◌, min, Bool, cond, eqb, List, [], ◌∷◌, length, get_or, drop, ℤ, pos, ◌+ℤ◌, refl, sym, ◌∙◌, ap, arith}
+-- The turns of a block, the sum of a row and the price of a run: edge by edge, and place by place.
+use Rattle.std.proofs.Common.{◌≡◌, ℕ, zero, suc, cond, ◌*ℤ◌, get_or, ◌+◌, ◌<◌, ◌≤◌, min, Bool, cond, eqb, List, [], ◌∷◌, length, get_or, drop, ℤ, pos, ◌+ℤ◌, refl, sym, ◌∙◌, ap, arith}
 use Rattle.std.proofs.lemmas.Int.{ints}
+use Rattle.std.proofs.lemmas.Bool.Decides.{nat_tests}
 use Rattle.std.proofs.lemmas.List.Elements.{All-nil, All-cons, All-weaker}
 use Rattle.std.proofs.lemmas.List.Recursion.{same_from_clauses}
+use Rattle.price.specs.Integers.{*ℤ-+ℤ}
 use Rattle.price.specs.Pairs.{◌⊕◌}
 use Rattle.price.proofs.PairSums.{parts}
 use Rattle.price.specs.declared.senses.Sense.{Sense}
@@ -11,10 +13,9 @@ use Rattle.task.specs.declared.edges.Edge.{Edge}
 use Rattle.task.specs.Graph.{no_edge, head_of, edge_at, Path, Run}
 use Rattle.task.specs.Lowest.{one_if}
 use Rattle.task.specs.Turns.{turns_in, turns_by, block_turns, edge_price, price_of, run_price}
-use Rattle.task.specs.Rows.{Row, coefficient, row_sum}
+use Rattle.task.specs.Rows.{Row, coefficient, weigh, row_sum}
 use Rattle.task.specs.Places.{Exist, coefficients_along, prices_along, places_of}
 use Rattle.task.proofs.EdgeSums.{weighed, weighed_next, weighed_done, along, Counts, by_places}
-use Rattle.task.proofs.ByEdges.{row_by_edges}
 
 -- ---- the edges of a run exist
 
@@ -62,6 +63,36 @@ prices_by_places sense es run =
     ∙ same_from_clauses (λ xs. (along (λ e. (edge_price sense e).0) es xs, along (λ e. (edge_price sense e).1) es xs)) (prices_along sense es) (λ x a. edge_price sense (edge_at es x) ⊕ a) refl (λ x xs. refl) (λ x xs. refl) run
 
 -- ---- rows
+
+no_turns : (i : ℕ) (cs : List ℤ) → weigh (λ b. 0) i cs ≡ pos 0
+no_turns i [] = refl
+no_turns i (c ∷ cs) = omega (arith, ints, no_turns (suc i) cs)
+
+-- t more turns of block b
+abbrev more : ℕ → ℕ → (ℕ → ℕ) → ℕ → ℕ
+more b t turns i = cond (eqb b i) t 0 + turns i
+
+module _ (t : ℕ) (turns : ℕ → ℕ) where
+  more_before : (b i : ℕ) (cs : List ℤ) → b < i → weigh (more b t turns) i cs ≡ weigh turns i cs
+  more_before b i [] low = refl
+  more_before b i (c ∷ cs) low =
+      let same : more b t turns i ≡ turns i = grind (arith, nat_tests) in
+      rw same (ap (λ z. c *ℤ pos (turns i) +ℤ z) (more_before b (suc i) cs (omega arith)))
+
+  more_at : (cs : List ℤ) (k b i : ℕ) → b ≡ i + k → weigh (more b t turns) i cs ≡ get_or cs k (pos 0) *ℤ pos t +ℤ weigh turns i cs
+  more_at [] k b i is = omega (arith, ints)
+  more_at (c ∷ cs) zero b i is =
+      let here : more b t turns i ≡ t + turns i = grind (arith, nat_tests) in
+      rw here (omega (arith, ints, *ℤ-+ℤ c (pos t) (pos (turns i)), more_before b (suc i) cs (omega arith)))
+  more_at (c ∷ cs) (suc k) b i is =
+      let same : more b t turns i ≡ turns i = grind (arith, nat_tests) in
+      rw same (omega (arith, ints, more_at cs k b (suc i) (omega arith)))
+
+pub row_by_edges : (row : Row) (es : List Edge) (ts : List ℕ) → row_sum es row ts ≡ weighed (λ e. coefficient row e.block) es ts
+row_by_edges row [] ts = no_turns 0 row.coefficients
+row_by_edges row (e ∷ es) [] = no_turns 0 row.coefficients
+row_by_edges row (e ∷ es) (t ∷ ts) =
+    more_at t (block_turns es ts) row.coefficients e.block e.block 0 (omega arith) ∙ ap (λ z. coefficient row e.block *ℤ pos t +ℤ z) (row_by_edges row es ts)
 
 pub rows_by_places : (es : List Edge) (run : List ℕ) → Exist es run → (row : Row) → row_sum es row (turns_in es run) ≡ coefficients_along es row run
 rows_by_places es run exist row =
