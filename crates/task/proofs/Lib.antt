@@ -1,5 +1,4 @@
 pub mod Lowest
-pub mod Joined
 pub mod Reach
 pub mod Marks
 pub mod Seals
