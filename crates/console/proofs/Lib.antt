@@ -1,5 +1,5 @@
-pub mod Lengths
-pub mod Telling
-pub mod Feeds
-pub mod OneByOne
-pub mod Ruled
+pub mod ShortParts
+pub mod ReportReplies
+pub mod FirstLine
+pub mod OneLineMore
+pub mod RulesKept

@@ -63,7 +63,7 @@ impl Reply {
     }
 
     // The stage of a case, its price and its counts; only a certified case has any. The feed is yet to come.
-    #[tactic(auto, using(crate::proofs::Telling::idle_told, crate::proofs::Telling::certified_told))]
+    #[tactic(auto, using(crate::proofs::ReportReplies::idle_told, crate::proofs::ReportReplies::certified_told))]
     fn told(report: Report) -> Reply
         ensures text { result.text.bytes ++ (10 ∷ []) ≡ rendered (told (shown report)) }
         ensures short { length result.text.bytes ≤ 63 }

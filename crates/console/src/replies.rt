@@ -1,7 +1,7 @@
 // The reply of one line.
 ghost use Rattle.std.specs.Prelude.{◌≡◌, ◌<◌, ◌≤◌, [], ◌∷◌, length, take, IfOk, Ok, Err};
 ghost use Rattle.console.specs.Histories.{KeepsOn};
-ghost use Rattle.console.specs.Judging.{Judged, Replied};
+ghost use Rattle.console.specs.Judging.{LineJudged, Replied};
 ghost use Rattle.history.specs.Answers.{said};
 
 use crate::answers::{MAX_REPLY, Reply};
@@ -16,7 +16,7 @@ pub(crate) fn judge_line(
     case: &mut Case,
     tables: &mut Tables,
 ) -> Result<Answer, Refusal>
-    ensures { Judged case.old text.now (said result) case.new }
+    ensures { LineJudged case.old text.now (said result) case.new }
 {
     match read(text, tables) {
         Some(call) => perform(case, &CyclesFirst, &call),
@@ -26,7 +26,7 @@ pub(crate) fn judge_line(
 
 /// Has the case do what the line asks, judged cycles first, writes the reply at the front of the buffer, which is the caller's, and answers its length:
 /// with all calls before, that of the line and its answer keep the rules. A buffer shorter than 64 bytes is refused before all else.
-#[tactic(auto, using(crate::proofs::Ruled::line_keeps))]
+#[tactic(auto, using(crate::proofs::RulesKept::line_keeps))]
 pub fn line(text: &[u8], case: &mut Case, reply: &mut [u8]) -> Result<usize, Refusal>
     ensures refused { length reply.old < 64 → (result ≡ Err Refusal.ReplyRoom) × (reply.new ≡ reply.old) × (case.new ≡ case.old) }
     ensures replied { 64 ≤ length reply.old → Replied case.old text.now case.new reply.old reply.new result }

@@ -1,6 +1,6 @@
-pub mod Marks
+pub mod Chains
 pub mod Readers
 pub mod Decimals
-pub mod Listing
-pub mod Lines
+pub mod OneNumberMore
+pub mod NumberLists
 pub mod Requests

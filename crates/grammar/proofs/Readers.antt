@@ -1,9 +1,33 @@
 -- A reader takes from the front of a text just what a writer writes.
-use Rattle.std.proofs.Common.{◌≡◌, ℕ, List, [], ◌∷◌, ◌++◌, Some, None, Option, refl, ap, ◌∙◌}
-use Rattle.std.proofs.lemmas.Option.{none-some}
-use Rattle.grammar.specs.Options.{and_then}
+use Rattle.std.proofs.Common.{◌≡◌, ℕ, eqb, List, [], ◌∷◌, ◌++◌, Some, None, Option, sym, refl, ap, ◌∙◌, Bor, MatchOption}
+use Rattle.std.specs.Option.{IfSome, option_and_then, option_map}
+use Rattle.std.proofs.lemmas.Bool.{cond-true, eq-eqb, eqb-true}
+use Rattle.std.proofs.lemmas.Option.{IfSome_then}
 use Rattle.grammar.specs.Numbers.{after}
-use Rattle.grammar.proofs.Marks.{mark_before}
+use Rattle.grammar.proofs.Chains.{and_then_holds, test_holds, none_holds}
+
+-- ---- a mark
+
+pub after_mark : (mark rest : List ℕ) → after mark (mark ++ rest) ≡ Some rest
+after_mark [] rest = refl
+after_mark (m ∷ ms) rest = cond-true (eqb m m) _ _ (eq-eqb m m refl) ∙ after_mark ms rest
+
+pub mark_before : (mark text : List ℕ) → IfSome (after mark text) (λ rest. mark ++ rest ≡ text)
+mark_before [] text = refl
+mark_before (m ∷ ms) [] = tt
+mark_before (m ∷ ms) (c ∷ cs) =
+    test_holds (eqb m c) (after ms cs) _ (λ e. let same = eqb-true m c e in IfSome_then (after ms cs) (mark_before ms cs) (λ rest more. cc))
+
+pub no_mark : (mark text : List ℕ) → ((rest : List ℕ) → mark ++ rest ≡ text → ⊥) → None ≡ after mark text
+no_mark mark text no_rest = none_holds (after mark text) (IfSome_then (after mark text) (mark_before mark text) no_rest)
+
+-- what `strip_prefix` says
+pub after_is : (text mark : List ℕ) (r : Option (Bor (List ℕ))) →
+    MatchOption r ((rest : List ℕ) → text ≡ mark ++ rest → ⊥) (λ x. text ≡ mark ++ x.now) → option_map (λ x. x.now) r ≡ after mark text
+after_is text mark None h = no_mark mark text (λ rest e. h rest (sym e))
+after_is text mark (Some x) h = sym (after_mark mark x.now) ∙ ap (after mark) (sym h)
+
+-- ---- a number
 
 -- a number ends where the text ends or at a blank
 abbrev pub Ends : List ℕ → Type 0
@@ -15,16 +39,14 @@ abbrev pub Found : {A : Type 0} → (A → List ℕ) → (A → Type 0) → List
 Found written Within text p = (written p.0 ++ p.1 ≡ text) × Within p.0 × Ends p.1
 
 pub record Reads {A : Type 0} (read : List ℕ → Option (A × List ℕ)) (written : A → List ℕ) (Within : A → Type 0) : Type 0 where
-  pub sound : (text : List ℕ) (p : A × List ℕ) → read text ≡ Some p → Found written Within text p
+  pub sound : (text : List ℕ) → IfSome (read text) (Found written Within text)
   pub complete : (a : A) (rest : List ℕ) → Within a → Ends rest → read (written a ++ rest) ≡ Some (a, rest)
 
-module _ {A : Type 0} (read : List ℕ → Option (A × List ℕ)) (written : A → List ℕ) (Within : A → Type 0) (reads : Reads read written Within) where
-  blank_sound : (text : List ℕ) (p : A × List ℕ) (o : Option (List ℕ)) → after (32 ∷ []) text ≡ o → and_then o read ≡ Some p →
-      Found (λ a. 32 ∷ written a) Within text p
-  blank_sound text p None e h = absurd (none-some p h)
-  blank_sound text p (Some more) e h =
-      let s = reads.sound more p h in (ap (λ cs. 32 ∷ cs) s.0 ∙ mark_before (32 ∷ []) text more e, s.1, s.2)
-
-  -- the same after one blank
-  pub reads_after : Reads (λ text. and_then (after (32 ∷ []) text) read) (λ a. 32 ∷ written a) Within
-  reads_after = record { sound = λ text p h. blank_sound text p (after (32 ∷ []) text) refl h; complete = reads.complete }
+-- the same after one blank
+pub reads_after : {A : Type 0} (read : List ℕ → Option (A × List ℕ)) (written : A → List ℕ) (Within : A → Type 0) → Reads read written Within →
+    Reads (λ text. option_and_then read (after (32 ∷ []) text)) (λ a. 32 ∷ written a) Within
+reads_after read written Within reads = record {
+  sound = λ text. and_then_holds read (after (32 ∷ []) text) _ (mark_before (32 ∷ []) text) (λ more blank.
+      IfSome_then (read more) (reads.sound more) (λ p s. (cc, s.1, s.2)));
+  complete = reads.complete;
+}

@@ -1,7 +1,7 @@
 -- The number at the front of a text: it ends where the text ends or at a blank.
 use Rattle.std.specs.Prelude.{ℕ, zero, suc, ◌+◌, ◌-◌, ◌*◌, cond, ◌&&◌, List, [], ◌∷◌, ℤ, pos, negsuc, Some, None, Option, ◌==◌, nat_lt}
 use Rattle.std.specs.Char.{is_ascii_digit}
-use Rattle.grammar.specs.Options.{and_then}
+use Rattle.std.specs.Option.{option_and_then, option_map, option_map_or}
 
 -- the value of a digit
 abbrev pub digit : ℕ → Option ℕ
@@ -14,11 +14,11 @@ with_digit n c = cond (nat_lt 0 n && (is_ascii_digit c && nat_lt (n * 10 + (c - 
 -- the digits that go on after a number
 abbrev pub digits_on : ℕ → List ℕ → Option (ℕ × List ℕ)
 digits_on n [] = Some (n, [])
-digits_on n (c ∷ cs) = cond (c == 32) (Some (n, c ∷ cs)) (and_then (with_digit n c) (λ m. digits_on m cs))
+digits_on n (c ∷ cs) = cond (c == 32) (Some (n, c ∷ cs)) (option_and_then (λ m. digits_on m cs) (with_digit n c))
 
 abbrev pub natural_front : List ℕ → Option (ℕ × List ℕ)
 natural_front [] = None
-natural_front (c ∷ cs) = and_then (digit c) (λ n. digits_on n cs)
+natural_front (c ∷ cs) = option_and_then (λ n. digits_on n cs) (digit c)
 
 -- the signed 32-bit number of this size
 abbrev pub positive : ℕ → Option ℤ
@@ -28,27 +28,23 @@ abbrev pub negative : ℕ → Option ℤ
 negative zero = None
 negative (suc n) = cond (nat_lt n 2147483648) (Some (negsuc n)) None
 
-abbrev pub sized : (ℕ → Option ℤ) → Option (ℕ × List ℕ) → Option (ℤ × List ℕ)
-sized sign None = None
-sized sign (Some p) = and_then (sign p.0) (λ z. Some (z, p.1))
-
 -- the text after a mark that it begins with
 abbrev pub after : List ℕ → List ℕ → Option (List ℕ)
 after [] text = Some text
 after (m ∷ ms) [] = None
 after (m ∷ ms) (c ∷ cs) = cond (m == c) (after ms cs) None
 
--- the integer of a text, by what stands after its minus sign
-abbrev pub by_sign : List ℕ → Option (List ℕ) → Option (ℤ × List ℕ)
-by_sign text None = sized positive (natural_front text)
-by_sign text (Some digits) = sized negative (natural_front digits)
+-- the integer whose size stands at the front of a text
+abbrev pub sized : (ℕ → Option ℤ) → List ℕ → Option (ℤ × List ℕ)
+sized sign text = option_and_then (λ p. option_map (λ z. (z, p.1)) (sign p.0)) (natural_front text)
 
+-- after a minus sign, or without one
 abbrev pub integer_front : List ℕ → Option (ℤ × List ℕ)
-integer_front text = by_sign text (after (45 ∷ []) text)
+integer_front text = option_map_or (sized negative) (after (45 ∷ []) text) (sized positive text)
 
 -- the number after one blank
 abbrev pub natural_after : List ℕ → Option (ℕ × List ℕ)
-natural_after text = and_then (after (32 ∷ []) text) natural_front
+natural_after text = option_and_then natural_front (after (32 ∷ []) text)
 
 abbrev pub integer_after : List ℕ → Option (ℤ × List ℕ)
-integer_after text = and_then (after (32 ∷ []) text) integer_front
+integer_after text = option_and_then integer_front (after (32 ∷ []) text)

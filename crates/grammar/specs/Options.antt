@@ -2,10 +2,6 @@
 use Rattle.std.specs.Borrow.{Bor}
 use Rattle.std.specs.Prelude.{ℕ, List, Some, None, Option}
 
-abbrev pub and_then : {A B : Type 0} → Option A → (A → Option B) → Option B
-and_then None f = None
-and_then (Some x) f = f x
-
 -- a value and the text after it, as the code holds them
 abbrev pub held : {A : Type 0} → Option (A × Bor (List ℕ)) → Option (A × List ℕ)
 held None = None

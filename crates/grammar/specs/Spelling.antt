@@ -1,7 +1,7 @@
 -- How the requests of a case are spelled on a line.
 use Rattle.std.specs.Prelude.{◌≡◌, ℕ, ◌+◌, ◌<◌, ◌≤◌, List, [], ◌∷◌, ◌++◌, length, ℤ, pos, neg_ℤ, ◌≤ℤ◌, ◌<ℤ◌, codes, decimal}
 use Rattle.std.specs.Fmt.{signed_decimal}
-use Rattle.std.specs.List.{AllByRecursion}
+use Rattle.std.specs.List.{All}
 use Rattle.history.specs.Calls.{Request, edge, row, seal, claim, void, step, withdraw, told}
 
 -- each number after one blank, in decimal
@@ -13,15 +13,16 @@ abbrev pub integers : List ℤ → List ℕ
 integers [] = []
 integers (z ∷ zs) = 32 ∷ (signed_decimal z ++ integers zs)
 
-abbrev pub spelled : Request → List ℕ
-spelled (edge tail head block cycles reads) = codes "edge" ++ naturals (tail ∷ head ∷ block ∷ cycles ∷ reads ∷ [])
-spelled (row relation k coefficients) = codes "row" ++ integers (relation ∷ k ∷ coefficients)
-spelled seal = codes "seal"
-spelled (claim turns tree) = codes "claim" ++ (naturals (length turns ∷ turns) ++ integers tree)
-spelled (void tree) = codes "void" ++ integers tree
-spelled step = codes "step"
-spelled withdraw = codes "withdraw"
-spelled told = codes "told"
+-- The texts that spell a request. A request may have several: its line here then says each of them, joined by ⊎.
+abbrev pub Spelling : Request → List ℕ → Type 0
+Spelling (edge tail head block cycles reads) text = text ≡ codes "edge" ++ naturals (tail ∷ head ∷ block ∷ cycles ∷ reads ∷ [])
+Spelling (row relation k coefficients) text = text ≡ codes "row" ++ integers (relation ∷ k ∷ coefficients)
+Spelling seal text = text ≡ codes "seal"
+Spelling (claim turns tree) text = text ≡ codes "claim" ++ (naturals (length turns ∷ turns) ++ integers tree)
+Spelling (void tree) text = text ≡ codes "void" ++ integers tree
+Spelling step text = text ≡ codes "step"
+Spelling withdraw text = text ≡ codes "withdraw"
+Spelling told text = text ≡ codes "told"
 
 -- unsigned and signed numbers of 32 bits
 abbrev pub Natural : ℕ → Type 0
@@ -32,12 +33,12 @@ Integer z = (neg_ℤ (pos 2147483648) ≤ℤ z) × (z <ℤ pos 2147483648)
 
 -- each number has 32 bits, and there are at most 512 of them, the count of turns among them
 abbrev pub Within : Request → Type 0
-Within (edge tail head block cycles reads) = AllByRecursion Natural (tail ∷ head ∷ block ∷ cycles ∷ reads ∷ [])
-Within (row relation k coefficients) = AllByRecursion Integer (relation ∷ k ∷ coefficients) × (2 + length coefficients ≤ 512)
-Within (claim turns tree) = AllByRecursion Natural turns × AllByRecursion Integer tree × (1 + length turns + length tree ≤ 512)
-Within (void tree) = AllByRecursion Integer tree × (length tree ≤ 512)
+Within (edge tail head block cycles reads) = All Natural (tail ∷ head ∷ block ∷ cycles ∷ reads ∷ [])
+Within (row relation k coefficients) = All Integer (relation ∷ k ∷ coefficients) × (2 + length coefficients ≤ 512)
+Within (claim turns tree) = All Natural turns × All Integer tree × (1 + length turns + length tree ≤ 512)
+Within (void tree) = All Integer tree × (length tree ≤ 512)
 Within other = Unit {0}
 
--- the line is of the form: it is what the request is spelled as
+-- the line spells the request, within the limits of a line
 abbrev pub Spells : Request → List ℕ → Type 0
-Spells q line = Within q × (spelled q ≡ line) × (length line ≤ 4095)
+Spells q line = Within q × Spelling q line × (length line ≤ 4095)

@@ -1,6 +1,6 @@
 // Lists of numbers, each after one blank.
 ghost use Rattle.std.specs.Prelude.{◌≡◌, ◌≤◌, length};
-ghost use Rattle.grammar.specs.Reading.{naturals_front, integers_in, filled};
+ghost use Rattle.grammar.specs.Reading.{naturals_front, integers_in};
 ghost use Rattle.std.specs.Option.{option_map};
 
 use crate::number::{integer, natural};
@@ -11,7 +11,7 @@ pub(crate) const MAX_NUMBERS: usize = 512;
 
 // Fills the table with numbers from the front of `text`; the answer is the text after them.
 pub(crate) fn naturals<'a>(text: &'a [u8], table: &mut [u32]) -> Option<&'a [u8]>
-    ensures { filled result table.new ≡ naturals_front (length table.old) text.now }
+    ensures { option_map (λ rest. (table.new, rest.now)) result ≡ naturals_front (length table.old) text.now }
 {
     let mut rest = text;
     for slot in table.iter_mut() {

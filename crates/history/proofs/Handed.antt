@@ -1,21 +1,21 @@
 -- The walk of a claim as its history knows it: by the edges that were handed out.
-use Rattle.std.proofs.Common.{◌≡◌, ℕ, suc, ◌+◌, ◌-◌, List, [], ◌∷◌, ◌++◌, length, get_or, Some, sym, refl, ap, ◌∙◌, subst, ap₂, arith, length-append, length-set}
-use Rattle.std.specs.List.{AllByRecursion}
+use Rattle.std.proofs.Common.{◌≡◌, ℕ, suc, ◌+◌, ◌-◌, List, [], ◌∷◌, ◌++◌, All, length, get_or, Some, sym, refl, ap, ◌∙◌, subst, ap₂, arith, length-append, length-set}
 use Rattle.std.proofs.lemmas.List.{nil_from_length}
 use Rattle.price.specs.Pairs.{Pair}
+use Rattle.price.specs.declared.senses.Sense.{Sense}
 use Rattle.task.specs.Graph.{head_of}
 use Rattle.task.specs.Rows.{Row, Keeps}
 use Rattle.task.specs.Sealing.{Ends}
-use Rattle.task.specs.Sound.{Sound, Claim}
+use Rattle.task.specs.Sound.{Sound, Walkable}
 use Rattle.task.specs.Turns.{turns, price_of}
 use Rattle.task.specs.declared.edges.Edge.{Edge}
 use Rattle.task.proofs.Flows.{claims}
 use Rattle.walk.specs.Fewest.{Takes}
 use Rattle.walk.specs.Rule.{next}
-use Rattle.walk.specs.Standing.{Standing, OneMore}
+use Rattle.walk.specs.WalkAt.{WalkAt, OneMore}
 use Rattle.walk.specs.Walks.{Chooser, one_less, at_after, left_after, Follows, Begun}
-use Rattle.walk.proofs.Rule.{walk_stands}
-use Rattle.walk.proofs.Standing.{stepped}
+use Rattle.walk.proofs.WalkStands.{walk_stands}
+use Rattle.walk.proofs.WalkAt.{stepped}
 use Rattle.history.specs.Known.{left_from, turns_left}
 use Rattle.history.specs.Rules.{Named, HandsOut}
 
@@ -40,7 +40,7 @@ lefts i (t ∷ ts) (l ∷ ls) handed long all =
     ap₂ (λ n ns. n ∷ ns) (omega arith) (lefts (suc i) ts ls handed (omega arith) (λ x. ap (λ j. turns j handed + get_or ls x 0) (omega arith) ∙ all (suc x)))
 
 module _ (es : List Edge) (rows : List Row) (s e : ℕ) (claimed : List ℕ) (ends : Ends es s e) (sound : Sound es rows s e claimed) where
-  pub its_claim : Claim es s e claimed
+  pub its_claim : Walkable es s e claimed
   its_claim = claims es rows s e claimed sound ends
 
   module _ (handed : List ℕ) (follows : Follows es (next es claimed e) claimed s handed) where
@@ -53,7 +53,7 @@ module _ (es : List Edge) (rows : List Row) (s e : ℕ) (claimed : List ℕ) (en
 
   named_after : (front : List ℕ) (x : ℕ) → Follows es (next es claimed e) claimed s front → next es claimed e (left_after claimed front) (at_after es s front) ≡ Some x → Named es claimed front x
   named_after front x follows chosen =
-      let stands : Standing es s e claimed front (left_after claimed front) (at_after es s front) = record { follows = follows; left_is = refl; at_is = refl } in
+      let stands : WalkAt es s e claimed front (left_after claimed front) (at_after es s front) = record { follows = follows; left_is = refl; at_is = refl } in
       let more : OneMore es s e claimed front (left_after claimed front) (at_after es s front) x =
       stepped es s e claimed its_claim front (left_after claimed front) (at_after es s front) stands (Some x) (sym chosen) in
       record {
@@ -67,14 +67,14 @@ module _ (es : List Edge) (rows : List Row) (s e : ℕ) (claimed : List ℕ) (en
         takes = subst (λ left. Takes es claimed e left (at_after es s front) x) (left_same front follows) more.named;
       }
 
-  pub hands_out : (p : Pair) → p ≡ price_of es claimed → (handed : List ℕ) → Follows es (next es claimed e) claimed s handed → HandsOut es rows claimed p handed
-  hands_out p costs handed follows =
+  pub hands_out : (sense : Sense) (p : Pair) → p ≡ price_of sense es claimed → (handed : List ℕ) → Follows es (next es claimed e) claimed s handed → HandsOut sense es rows claimed p handed
+  hands_out sense p costs handed follows =
       let b = begun handed follows in
       record {
         rest = b.rest;
-        keeps = record { is_run = b.is_run; keeps = subst (λ ts. AllByRecursion (Keeps es ts) rows) (sym b.exact) sound.keeps };
+        keeps = record { is_run = b.is_run; keeps = subst (λ ts. All (Keeps es ts) rows) (sym b.exact) sound.keeps };
         exact = b.exact;
-        price = ap (price_of es) b.exact ∙ sym costs;
+        price = ap (price_of sense es) b.exact ∙ sym costs;
         named = λ front x back split.
             let f = follows_front es (next es claimed e) claimed s front x back (subst (Follows es (next es claimed e) claimed s) split follows) in
             named_after front x f.0 f.1;

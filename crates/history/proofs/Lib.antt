@@ -1,7 +1,7 @@
 mod Handed
-mod Lately
+mod LastEvent
+mod Remaining
 mod Meaning
-mod NewParts
 mod Stepping
 mod Calling
 pub mod Kept

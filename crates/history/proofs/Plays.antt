@@ -1,7 +1,7 @@
 -- The turns of a loop that performs a list of calls.
 use Rattle.std.proofs.Common.{◌≡◌, ℕ, suc, ◌+◌, ◌<◌, Bool, List, [], ◌∷◌, ◌++◌, length, get_or, take, sym, refl, ap, ◌∙◌, subst₂, add-one, arith, Result}
 use Rattle.price.specs.Pairs.{Pair}
-use Rattle.price.specs.declared.refusals.Refusal.{Refusal}
+use Rattle.judge.specs.declared.refusals.Refusal.{Refusal}
 use Rattle.history.specs.Answers.{Said, said}
 use Rattle.history.specs.Calls.{Request, request}
 use Rattle.judge.specs.Cases.{Contents}

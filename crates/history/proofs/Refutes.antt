@@ -1,19 +1,22 @@
 -- The rules refute hollow answers.
-use Rattle.std.proofs.Common.{◌≡◌, ℕ, zero, suc, ◌+◌, ◌<◌, Bool, false, T, List, [], ◌∷◌, ◌++◌, map, get_or, ℤ, sym, refl, ap, ◌∙◌, subst, inl, inr, arith}
+use Rattle.std.proofs.Common.{◌≡◌, ℕ, zero, suc, ◌+◌, ◌<◌, Bool, false, T, List, [], ◌∷◌, ◌++◌, map, get_or, ℤ, sym, refl, ap, ◌∙◌, subst, inl, inr, ◌≢◌, arith}
 use lib.Signed.{le_z_yes}
-use Rattle.std.specs.List.{AllByRecursion}
+use Rattle.std.proofs.lemmas.List.Elements.{All-nil, All-cons, All-map}
+use Rattle.judge.specs.declared.stages.Proof.TheVariants.{Certified}
 use Rattle.price.specs.Pairs.{Pair}
+use Rattle.price.specs.declared.senses.Sense.TheVariants.{Longest}
 use Rattle.task.specs.Graph.{tail_of, head_of, Start, End, Path}
-use Rattle.task.specs.Rows.{KeepsAll}
+use Rattle.task.specs.Rows.{Keeps, KeepsAll}
+use Rattle.task.specs.Sound.{no_row}
 use Rattle.task.specs.Turns.{turns as turns_of, price_of, turns_in}
 use Rattle.task.specs.declared.edges.Edge.{Edge}
 use Rattle.history.specs.Answers.{next, price as priced, agreed}
 use Rattle.history.specs.Calls.{claim, void, step, withdraw}
-use Rattle.history.specs.History.{History, ◌gives◌, with_call}
-use Rattle.history.specs.Known.{edges_of, rows_of, Claimed, VoidClaimed, Withdrawal, Certified, Void}
+use Rattle.history.specs.History.{Event, History, ◌gives◌, with_call}
+use Rattle.history.specs.Known.{edges_of, rows_of, closes, bearing, claimed_by, voided_by, Stands, Void}
 use Rattle.history.specs.Refuting.{task, turns, certified, Refuted, HollowAnswersRefuted}
 use Rattle.history.specs.Rules.{HandsOut}
-use Rattle.history.proofs.Lately.{none_at_first, none_left}
+use Rattle.history.proofs.Remaining.{at_first, none_left}
 
 abbrev graph : List Edge
 graph = edges_of task
@@ -50,37 +53,34 @@ it_keeps = record {
     ends = the_end;
     leads = (omega arith, refl, (omega arith, refl, (omega arith, refl, (omega arith, refl, (omega arith, refl, (omega arith, refl, (omega arith, refl, (omega arith, refl, (omega arith, refl, refl)))))))));
   };
-  keeps = (le_z_yes tt, tt);
+  keeps = All-cons (Keeps graph turns) (get_or (rows_of task) 0 no_row) [] (le_z_yes tt) (All-nil (Keeps graph turns));
 }
 
+abbrev NoEnd : Event → Type 0
+NoEnd e = bearing e ≢ closes
+
 module _ (tree : List ℤ) (p : Pair) where
-  -- the case is certified, also after more steps
-  certified_with : (more : List ℕ) → Certified (certified tree p ++ map (λ x. step gives next x) more)
-  certified_with more = record {
+  -- the claim stands, also after more steps
+  stands_with : (more : List ℕ) → Stands (certified tree p ++ map (λ x. step gives next x) more)
+  stands_with more = record {
     before = task;
     event = claim turns tree gives priced p;
-    opens = record { turns = turns; tree = tree; price_said = p; is = refl };
+    what = record { sense = Longest; proof = Certified; turns = turns; price = p };
+    opens = refl;
     since = step gives next 0 ∷ map (λ x. step gives next x) more;
     split = refl;
-    standing = (no_withdraw 0, all_steps more);
+    standing = All-cons NoEnd (step gives next 0) (map (λ x. step gives next x) more) (λ end. cc) (All-map NoEnd (λ x. step gives next x) more (λ k d low end. cc));
   }
-    where
-      no_withdraw : (x : ℕ) → Withdrawal (step gives next x) → ⊥
-      no_withdraw x w = cc (w.0)
-
-      all_steps : (xs : List ℕ) → AllByRecursion (λ e. Withdrawal e → ⊥) (map (λ x. step gives next x) xs)
-      all_steps [] = tt
-      all_steps (x ∷ xs) = (no_withdraw x, all_steps xs)
 
   abbrev now : History
   now = certified tree p
 
-  it_is : Certified now
-  it_is = certified_with []
+  it_stands : Stands now
+  it_stands = stands_with []
 
 module _ (le : Pair → Pair → Bool) (tree : List ℤ) (p : Pair) where
   -- once off the loop no edge leads on, and turns are left over
-  no_way_back : HandsOut graph (rows_of task) turns p (0 ∷ 1 ∷ 3 ∷ []) → ⊥
+  no_way_back : HandsOut Longest graph (rows_of task) turns p (0 ∷ 1 ∷ 3 ∷ []) → ⊥
   no_way_back out = by out.rest out.keeps.is_run.leads out.exact
     where
       by : (rest : List ℕ) → Path graph out.keeps.is_run.start out.keeps.is_run.end (0 ∷ 1 ∷ 3 ∷ rest) → turns_in graph (0 ∷ 1 ∷ 3 ∷ rest) ≡ turns → ⊥
@@ -88,29 +88,29 @@ module _ (le : Pair → Pair → Bool) (tree : List ℤ) (p : Pair) where
       by (y ∷ ys) path exact = the_end.not_left y path.2.2.2.0 path.2.2.2.1
 
   refuted : Refuted le tree p
-  unfolding it_is certified_with
+  unfolding it_stands stands_with
   refuted = record {
-    unclaimed = λ state two rules. none_at_first Claimed ((rules.told_tells [] state ([], refl)).certified.0 two);
-    unvoided = λ state three rules. none_at_first VoidClaimed ((rules.told_tells [] state ([], refl)).void.0 three);
-    withdrawn = λ state two rules. none_left Claimed (now tree p) (withdraw gives agreed) (λ k. cc (ap (λ e. e.call) k.is)) (refl, refl)
-        ((rules.told_tells (with_call (now tree p) withdraw agreed) state ([], refl)).certified.0 two);
-    hidden = λ state other rules. other ((rules.told_tells (now tree p) state ([], refl)).certified.1 (it_is tree p));
-    too_cheap = λ dearer rules. let z : T false = subst T dearer ((rules.greatest (now tree p) ([], refl) (it_is tree p)).none_dearer the_run it_keeps) in z;
-    made_up_price = λ other rules. let out = rules.hands_out (now tree p) ([], refl) (it_is tree p) in other (sym out.price ∙ ap (price_of graph) out.exact);
-    untold_price = λ state other rules. other ((rules.told_tells (now tree p) state ([], refl)).price (it_is tree p));
-    stuck = λ refusal rules. cc (rules.step_accepts (now tree p) _ ([], refl) (it_is tree p));
-    repeats = λ rules. let out = rules.hands_out (certified tree p ++ (step gives next 0 ∷ [])) ([], refl) (certified_with tree p (0 ∷ [])) in
+    unclaimed = λ state two rules. at_first claimed_by (λ x. refl) refl (((rules.told_tells [] state ([], refl)).stands Longest Certified).0 two).0;
+    unvoided = λ state three rules. at_first voided_by (λ x. refl) refl ((rules.told_tells [] state ([], refl)).void.0 three);
+    withdrawn = λ state two rules. let past = with_call (now tree p) withdraw agreed in
+        none_left claimed_by (λ x. refl) refl (now tree p) (withdraw gives agreed) refl (((rules.told_tells past state ([], refl)).stands Longest Certified).0 two).0;
+    hidden = λ state other rules. other (((rules.told_tells (now tree p) state ([], refl)).stands Longest Certified).1 (it_stands tree p, refl, refl));
+    too_cheap = λ dearer rules. let z : T false = subst T dearer ((rules.best (now tree p) ([], refl) (it_stands tree p) refl).none_better the_run it_keeps) in z;
+    made_up_price = λ other rules. let out = rules.hands_out (now tree p) ([], refl) (it_stands tree p) in other (sym out.price ∙ ap (price_of Longest graph) out.exact);
+    untold_price = λ state other rules. other ((rules.told_tells (now tree p) state ([], refl)).price (it_stands tree p));
+    stuck = λ refusal rules. cc (rules.step_accepts (now tree p) _ ([], refl) (it_stands tree p));
+    repeats = λ rules. let out = rules.hands_out (certified tree p ++ (step gives next 0 ∷ [])) ([], refl) (stands_with tree p (0 ∷ [])) in
         let e : 1 + (1 + turns_of 0 out.rest) ≡ 1 = ap (λ l. get_or l 0 0) out.exact in omega arith;
-    leaves_early = λ rules. no_way_back (rules.hands_out (certified tree p ++ (step gives next 1 ∷ (step gives next 3 ∷ []))) ([], refl) (certified_with tree p (1 ∷ 3 ∷ [])));
-    done_early = λ rules. let e : ◌≡◌ {A = ℕ} 1 9 = (rules.step_done (now tree p) _ ([], refl) (it_is tree p)).0 refl in omega arith;
-    made_up_steps = λ state other rules. other ((rules.told_tells (now tree p) state ([], refl)).steps_told (it_is tree p));
-    made_up_left = λ state other rules. other ((rules.told_tells (now tree p) state ([], refl)).left_told (it_is tree p));
+    leaves_early = λ rules. no_way_back (rules.hands_out (certified tree p ++ (step gives next 1 ∷ (step gives next 3 ∷ []))) ([], refl) (stands_with tree p (1 ∷ 3 ∷ [])));
+    done_early = λ rules. let e : ◌≡◌ {A = ℕ} 1 9 = (rules.step_done (now tree p) _ ([], refl) (it_stands tree p)).0 refl in omega arith;
+    made_up_steps = λ state other rules. other ((rules.told_tells (now tree p) state ([], refl)).steps_told (it_stands tree p));
+    made_up_left = λ state other rules. other ((rules.told_tells (now tree p) state ([], refl)).left_told (it_stands tree p));
     silent = λ refusal rules. cc (rules.told_accepts [] _ ([], refl));
     void_with_a_run = λ rules. rules.no_run (with_call task (void tree) agreed) ([], refl) voided the_run it_keeps;
   }
     where
       voided : Void (with_call task (void tree) agreed)
-      voided = record { before = task; event = void tree gives agreed; opens = record { tree = tree; is = refl }; since = []; split = refl; standing = tt }
+      voided = record { before = task; event = void tree gives agreed; what = tt; opens = refl; since = []; split = refl; standing = All-nil NoEnd }
 
 pub hollow_answers_refuted : HollowAnswersRefuted
 hollow_answers_refuted = refuted

@@ -4,7 +4,7 @@ use Rattle.history.specs.declared.calls.Answer.{Answer}
 use Rattle.history.specs.declared.calls.Answer.TheVariants.{Number, Ends, Price, Next, Done, Agreed, Told}
 use Rattle.judge.specs.Reports.{State, shown}
 use Rattle.price.specs.Pairs.{Pair}
-use Rattle.price.specs.declared.refusals.Refusal.{Refusal}
+use Rattle.judge.specs.declared.refusals.Refusal.{Refusal}
 
 -- an answer, by its numbers
 pub data Said : Type 0 where

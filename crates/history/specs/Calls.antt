@@ -1,11 +1,12 @@
 -- What is asked of a case.
 use Rattle.std.specs.Prelude.{ℕ, List, ℤ}
 use Rattle.history.specs.declared.calls.Call.{Call}
+use Rattle.task.specs.declared.edges.NewEdge.{NewEdge}
 use Rattle.history.specs.declared.calls.Call.TheVariants.{Edge, Row, Seal, Claim, Void, Step, Withdraw, Told}
 
 -- a call, by its numbers and lists
 pub data Request : Type 0 where
-  edge : (tail head block cycles reads : ℕ) → Request
+  edge : NewEdge → Request
   row : (relation k : ℤ) (coefficients : List ℤ) → Request
   seal : Request
   claim : (turns : List ℕ) (tree : List ℤ) → Request
@@ -15,7 +16,7 @@ pub data Request : Type 0 where
   told : Request
 
 abbrev pub request : Call → Request
-request (Edge tail head block cycles reads) = edge tail head block cycles reads
+request (Edge new) = edge new
 request (Row relation k coefficients) = row relation k coefficients.now
 request Seal = seal
 request (Claim turns tree) = claim turns.now tree.now

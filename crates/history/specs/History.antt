@@ -7,7 +7,7 @@ use Rattle.history.specs.Calls.{Request, edge, row, seal, claim, step, told, req
 use Rattle.history.specs.declared.calls.Answer.{Answer}
 use Rattle.history.specs.declared.calls.Call.{Call}
 use Rattle.price.specs.Pairs.{Pair}
-use Rattle.price.specs.declared.refusals.Refusal.{Refusal}
+use Rattle.judge.specs.declared.refusals.Refusal.{Refusal}
 
 -- a call with its answer
 pub record Event : Type 0 where
@@ -38,7 +38,7 @@ accepted other = true
 
 -- what each call answers where it is accepted
 abbrev pub Answers : Request → Said → Type 0
-Answers (edge tail head block cycles reads) a = (n : ℕ) × (a ≡ number n)
+Answers (edge new) a = (n : ℕ) × (a ≡ number n)
 Answers (row relation k coefficients) a = (n : ℕ) × (a ≡ number n)
 Answers seal a = (start : ℕ) × ((end : ℕ) × (a ≡ ends start end))
 Answers (claim turns tree) a = (p : Pair) × (a ≡ price p)

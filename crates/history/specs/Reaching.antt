@@ -9,7 +9,7 @@ use Rattle.history.specs.Rules.{Rules}
 use Rattle.history.specs.declared.calls.Answer.{Answer}
 use Rattle.history.specs.declared.calls.Call.{Call}
 use Rattle.price.specs.Pairs.{Pair}
-use Rattle.price.specs.declared.refusals.Refusal.{Refusal}
+use Rattle.judge.specs.declared.refusals.Refusal.{Refusal}
 
 -- a fresh case comes to hold c by the calls of h, and gave them the answers of h
 pub data Reached (le : Pair → Pair → Bool) (unit : Pair) : History → Contents → Type 0 where

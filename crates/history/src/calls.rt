@@ -2,18 +2,12 @@
 
 use judge::Report;
 use price::Price;
-use task::Node;
+use task::{NewEdge, Node};
 
 /// A call, with the numbers and lists handed to it, as it is written; nobody prints or compares one.
 #[derive(Clone, Copy)]
 pub enum Call<'a> {
-    Edge {
-        tail: u32,
-        head: u32,
-        block: u32,
-        cycles: u32,
-        reads: u32,
-    },
+    Edge(NewEdge),
     Row {
         relation: i32,
         k: i32,
@@ -39,11 +33,11 @@ pub enum Answer {
     Number(usize),
     /// The start and the end.
     Ends(Node, Node),
-    /// The certified price.
+    /// The price of a claim that stands from then on.
     Price(Price),
-    /// The next edge of the certified run.
+    /// The next edge of the run of the claim.
     Next(usize),
-    /// The certified run has been handed out.
+    /// All of the run has been handed out.
     Done,
     /// Accepted, with nothing more to say.
     Agreed,

@@ -6,8 +6,8 @@ ghost use Rattle.history.specs.Performing.{after, answered};
 ghost use Rattle.history.specs.Reaching.{KeepsRules};
 
 use crate::calls::{Answer, Call};
-use judge::Case;
-use price::{Refusal, Tariff};
+use judge::{Case, Refusal};
+use price::Tariff;
 
 // The method of the call, and its result as an answer.
 fn dispatch<T: Tariff>(case: &mut Case, tariff: &T, call: &Call) -> Result<Answer, Refusal>
@@ -16,15 +16,7 @@ fn dispatch<T: Tariff>(case: &mut Case, tariff: &T, call: &Call) -> Result<Answe
 {
     // calls are data, read from a line, and each kind has numbers of its own
     match *call {
-        Call::Edge {
-            tail,
-            head,
-            block,
-            cycles,
-            reads,
-        } => case
-            .edge(tail, head, block, cycles, reads)
-            .map(Answer::Number),
+        Call::Edge(new) => case.edge(new).map(Answer::Number),
         Call::Row {
             relation,
             k,

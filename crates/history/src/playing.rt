@@ -6,8 +6,8 @@ ghost use Rattle.std.specs.Prelude.{IfOk};
 
 use crate::calls::{Answer, Call};
 use crate::performing::perform;
-use judge::Case;
-use price::{Refusal, Tariff};
+use judge::{Case, Refusal};
+use price::Tariff;
 use std::alloc::{AllocError, Global};
 
 /// The answers of all calls, in order, on a fresh case under one tariff. Refused only for want of memory, before the first call.

@@ -1,2 +1,1 @@
-mod RowAsked
 pub mod Accepts

@@ -1,3 +1,4 @@
+pub mod Refusals
 pub mod Stages
 pub mod Counts
 pub mod Cases

@@ -15,7 +15,7 @@ pub struct Case {
     pub(crate) stage: Stage,
     pub(crate) edges: Vec<Edge>,
     pub(crate) rows: Vec<Row>,
-    // of a certified claim: the last exit of every node, and the turns left of every edge; beside the stage, which each call copies
+    // of a claim that stands: the last exit of every node, and the turns left of every edge; beside the stage, which each call copies
     pub(crate) exits: [usize; NODES],
     pub(crate) left: Turns,
 }

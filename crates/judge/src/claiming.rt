@@ -1,15 +1,16 @@
 // The calls that judge a claim. What a call does depends on the stage: each matches on it.
 ghost use Rattle.std.specs.Prelude.{◌≡◌, ◌≤◌, length, IfOk, OnOk};
 ghost use Rattle.certificate.specs.Tasks.{task_of};
-ghost use Rattle.certificate.specs.Verdicts as verdicts;
-ghost use Rattle.judge.specs.Claiming.{Accepted, Voided, claim_answer, claim_kept, claim_on, task_between, void_answer, void_kept};
+ghost use Rattle.judge.specs.Claiming.{Accepted, Voided, claim_answer, claim_kept, claim_on, task_between, void_answer, void_kept, void_on};
 ghost use Rattle.judge.specs.Counts.{Few};
+ghost use Rattle.price.specs.declared.senses.Sense.TheVariants.{Longest};
 
 use crate::case::Case;
 use crate::counts::{refill, total};
-use crate::stages::Stage;
+use crate::refusals::Refusal;
+use crate::stages::{Proof, Stage, Standing};
 use certificate::{prove_price, prove_void};
-use price::{Price, Refusal, Tariff};
+use price::{Price, Sense, Tariff};
 use task::{Flow, Node, Task};
 use walk::last_exits;
 
@@ -17,19 +18,20 @@ use walk::last_exits;
 fn judge_claim<T: Tariff>(
     tariff: &T,
     task: &Task<'_>,
+    sense: Sense,
     turns: &[u32],
     tree: &[i32],
 ) -> Result<Price, Refusal>
     requires { length task.now.edges.now ≤ 64 }
-    ensures { result ≡ claim_on (T.le tariff.now) (T.unit tariff.now) (task_of task.now) turns.now tree.now }
+    ensures { result ≡ claim_on sense (T.le tariff.now) (T.unit tariff.now) (task_of task.now) turns.now tree.now }
 {
     task.check_turns(turns)?;
     let claimed = Flow {
         edges: task.edges,
         turns,
     };
-    let price = claimed.price()?;
-    prove_price(tariff, task, price, tree)?;
+    let price = claimed.price(sense)?;
+    prove_price(tariff, task, sense, price, tree)?;
     Ok(price)
 }
 
@@ -53,13 +55,14 @@ impl Case {
         tariff: &T,
         start: Node,
         end: Node,
+        sense: Sense,
         turns: &[u32],
         tree: &[i32],
     ) -> Result<Price, Refusal>
-        ensures answer { result ≡ claim_on (T.le tariff.now) (T.unit tariff.now) (task_between self.now.edges self.now.rows start end) turns.now tree.now }
+        ensures answer { result ≡ claim_on sense (T.le tariff.now) (T.unit tariff.now) (task_between self.now.edges self.now.rows start end) turns.now tree.now }
         ensures few { OnOk result (Few turns.now) }
     {
-        judge_claim(tariff, &self.task(start, end), turns, tree)
+        judge_claim(tariff, &self.task(start, end), sense, turns, tree)
     }
 
     // The questions of a void claim on a sealed case.
@@ -70,9 +73,46 @@ impl Case {
         end: Node,
         tree: &[i32],
     ) -> Result<(), Refusal>
-        ensures { result ≡ verdicts.void_answer (T.le tariff.now) (T.unit tariff.now) (task_between self.now.edges self.now.rows start end) tree.now }
+        ensures { result ≡ void_on (T.le tariff.now) (T.unit tariff.now) (task_between self.now.edges self.now.rows start end) tree.now }
     {
-        prove_void(tariff, &self.task(start, end), tree)
+        prove_void(tariff, &self.task(start, end), tree)?;
+        Ok(())
+    }
+
+    // Judges a claim in one sense, under a tariff that finds a price no dearer than another exactly when it is no better in that sense.
+    fn weigh<T: Tariff>(
+        &mut self,
+        sense: Sense,
+        tariff: &T,
+        turns: &[u32],
+        tree: &[i32],
+    ) -> Result<Price, Refusal>
+        ensures answer { result ≡ claim_answer sense (T.le tariff.now) (T.unit tariff.now) self.old turns.now tree.now }
+        ensures kept { self.new ≡ claim_kept sense result self.old turns.now }
+        ensures accepted { IfOk result (λ p. Accepted sense (T.le tariff.now) self.old.edges self.old.rows turns.now p) }
+    {
+        let stage = self.stage;
+        match stage {
+            Stage::Sealed { start, end } => {
+                let price = self.judge_turns(tariff, start, end, sense, turns, tree)?;
+                let claimed = Flow {
+                    edges: &self.edges,
+                    turns,
+                };
+                self.exits = last_exits(claimed, end);
+                refill(&mut self.left, turns);
+                let claim = Standing {
+                    sense,
+                    proof: Proof::Certified,
+                    price,
+                    all: total(turns),
+                    at: start,
+                };
+                self.stage = Stage::Standing { start, end, claim };
+                Ok(price)
+            }
+            _ => Err(Refusal::NotSealed),
+        }
     }
 
     /// Judges a claim: these turns, backed by this tree. Answers their price, which is then certified:
@@ -83,31 +123,11 @@ impl Case {
         turns: &[u32],
         tree: &[i32],
     ) -> Result<Price, Refusal>
-        ensures answer { result ≡ claim_answer (T.le tariff.now) (T.unit tariff.now) self.old turns.now tree.now }
-        ensures kept { self.new ≡ claim_kept result self.old turns.now }
-        ensures accepted { IfOk result (λ p. Accepted (T.le tariff.now) self.old.edges self.old.rows turns.now p) }
+        ensures answer { result ≡ claim_answer Longest (T.le tariff.now) (T.unit tariff.now) self.old turns.now tree.now }
+        ensures kept { self.new ≡ claim_kept Longest result self.old turns.now }
+        ensures accepted { IfOk result (λ p. Accepted Longest (T.le tariff.now) self.old.edges self.old.rows turns.now p) }
     {
-        let stage = self.stage;
-        match stage {
-            Stage::Sealed { start, end } => {
-                let price = self.judge_turns(tariff, start, end, turns, tree)?;
-                let claimed = Flow {
-                    edges: &self.edges,
-                    turns,
-                };
-                self.exits = last_exits(claimed, end);
-                refill(&mut self.left, turns);
-                self.stage = Stage::Certified {
-                    start,
-                    end,
-                    price,
-                    all: total(turns),
-                    at: start,
-                };
-                Ok(price)
-            }
-            _ => Err(Refusal::NotSealed),
-        }
+        self.weigh(Sense::Longest, tariff, turns, tree)
     }
 
     /// Judges the claim that no run keeps every row, backed by this tree.

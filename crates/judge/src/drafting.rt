@@ -1,16 +1,16 @@
 // The calls that draft a task and seal it. What a call does depends on the stage: each matches on it.
 ghost use Rattle.std.specs.Prelude.{◌≡◌, ℕ, IfOk, Ok};
 ghost use Rattle.judge.specs.Cases.{fresh};
-ghost use Rattle.judge.specs.Drafting.{edge_answer, edge_kept, row_answer, row_kept, seal_answer, seal_kept};
+ghost use Rattle.judge.specs.Drafting.{SealAnswers, edge_answer, edge_kept, row_answer, row_kept, seal_answer, seal_kept};
 ghost use Rattle.judge.specs.Stages.{draft};
-ghost use Rattle.task.specs.Sealing.{EveryEdge, Sealed};
+ghost use Rattle.task.specs.Sealing.{EveryEdge};
 
 use crate::case::Case;
 use crate::counts::Turns;
+use crate::refusals::Refusal;
 use crate::stages::Stage;
-use price::Refusal;
 use std::alloc::{AllocError, Global};
-use task::{Edge, MAX_EDGES, MAX_ROWS, NODES, Node, Row, ends, repeats};
+use task::{Edge, MAX_EDGES, MAX_ROWS, NODES, NewEdge, Node, Row, ends, repeats};
 
 impl Case {
     /// An empty draft; refused only for want of memory.
@@ -29,16 +29,9 @@ impl Case {
     }
 
     /// Adds an edge, and answers its number.
-    pub fn edge(
-        &mut self,
-        tail: u32,
-        head: u32,
-        block: u32,
-        cycles: u32,
-        reads: u32,
-    ) -> Result<usize, Refusal>
-        ensures answer { result ≡ edge_answer self.old tail head block cycles reads }
-        ensures kept { self.new ≡ edge_kept result self.old tail head block cycles reads }
+    pub fn edge(&mut self, new: NewEdge) -> Result<usize, Refusal>
+        ensures answer { result ≡ edge_answer self.old new }
+        ensures kept { self.new ≡ edge_kept result self.old new }
     {
         match self.stage {
             Stage::Draft => {}
@@ -47,7 +40,7 @@ impl Case {
         if self.edges.len() >= MAX_EDGES {
             return Err(Refusal::EdgesFull);
         }
-        let edge = Edge::new(tail, head, block, cycles, reads)?;
+        let edge = Edge::new(new)?;
         if repeats(&self.edges, &edge) {
             return Err(Refusal::EdgeRepeated);
         }
@@ -78,7 +71,7 @@ impl Case {
     pub fn seal(&mut self) -> Result<(Node, Node), Refusal>
         ensures answer { result ≡ seal_answer self.old }
         ensures kept { self.new ≡ seal_kept result self.old }
-        ensures means { self.old.stage ≡ draft → Sealed self.old.edges result }
+        ensures means { self.old.stage ≡ draft → SealAnswers self.old.edges result }
         ensures law { (start end : ℕ) → result ≡ Ok (start, end) → EveryEdge self.old.edges start end }
     {
         match self.stage {

@@ -1,47 +1,47 @@
-// The calls that hand out a certified run, take a claim back and tell the state of a case.
+// The calls that hand out the run of a claim, take a claim back and tell the state of a case.
 ghost use Rattle.std.specs.Prelude.{◌≡◌};
 ghost use Rattle.judge.specs.Handing.{step_answer, step_kept, told_answer, withdraw_answer, withdraw_kept};
 ghost use Rattle.judge.specs.Reports.{shown};
 
 use crate::case::Case;
 use crate::counts::{head_of, total, use_turn};
+use crate::refusals::Refusal;
 use crate::reports::Report;
 use crate::stages::Stage;
-use price::Refusal;
 use task::Flow;
 use walk::next_edge;
 
 impl Case {
-    /// Hands out the next edge of the certified run; none once all of it is handed out.
+    /// Hands out the next edge of the run of the claim that stands; none once all of it is handed out.
     pub fn step(&mut self) -> Result<Option<usize>, Refusal>
         ensures answer { result ≡ step_answer self.old }
         ensures kept { self.new ≡ step_kept result self.old }
     {
         match &mut self.stage {
-            Stage::Certified { end, at, .. } => {
+            Stage::Standing { end, claim, .. } => {
                 let left = Flow {
                     edges: &self.edges,
                     turns: self.left.as_slice(),
                 };
-                let Some(edge) = next_edge(left, &self.exits, *at, *end) else {
+                let Some(edge) = next_edge(left, &self.exits, claim.at, *end) else {
                     return Ok(None);
                 };
                 use_turn(&mut self.left, edge);
-                *at = head_of(&self.edges, edge);
+                claim.at = head_of(&self.edges, edge);
                 Ok(Some(edge))
             }
-            _ => Err(Refusal::NotCertified),
+            _ => Err(Refusal::NothingStands),
         }
     }
 
-    /// Turns a certified or void case back to sealed.
+    /// Turns a case with a claim that stands, or a void one, back to sealed.
     pub fn withdraw(&mut self) -> Result<(), Refusal>
         ensures answer { result ≡ withdraw_answer self.old }
         ensures kept { self.new ≡ withdraw_kept self.old }
     {
         let stage = self.stage;
         match stage {
-            Stage::Certified { start, end, .. } | Stage::Void { start, end } => {
+            Stage::Standing { start, end, .. } | Stage::Void { start, end } => {
                 self.stage = Stage::Sealed { start, end };
                 Ok(())
             }
@@ -49,18 +49,20 @@ impl Case {
         }
     }
 
-    /// The stage of the case; of a certified one also the price, the steps handed out since the claim and the turns left.
+    /// The stage of the case; where a claim stands also its price, the steps handed out since and the turns left.
     pub fn told(&self) -> Report
         ensures { shown result ≡ told_answer self.now }
     {
         match self.stage {
             Stage::Draft => Report::Draft,
             Stage::Sealed { .. } => Report::Sealed,
-            Stage::Certified { price, all, .. } => {
+            Stage::Standing { claim, .. } => {
                 let left = total(self.left.as_slice());
-                Report::Certified {
-                    price,
-                    steps: all.saturating_sub(left),
+                Report::Standing {
+                    sense: claim.sense,
+                    proof: claim.proof,
+                    price: claim.price,
+                    steps: claim.all.saturating_sub(left),
                     left,
                 }
             }

@@ -1,4 +1,4 @@
--- The edge and the row that are made of numbers which pass their questions.
+-- What numbers that make an edge have passed.
 use Rattle.std.proofs.Common.{◌≡◌, ◌≤◌, Bool, true, false, ◌&&◌, leb, List, length, ℤ, Some, None, Ok, Option, Result, refl, arith}
 use Rattle.std.proofs.lemmas.Bool.Decides.{nat_tests}
 use Rattle.price.specs.Questions.{ask}
@@ -15,21 +15,12 @@ pub asked : {A E : Type 0} (b : Bool) (refusal : E) (r : Result A E) (x : A) →
 asked true refusal r x is = (refl, is)
 asked false refusal r x is = cc
 
--- the edge is that of its numbers, between nodes of 31 at most
-pub record Made (n : NewEdge) (e : Edge) : Type 0 where
-  pub is : e ≡ edge_of n
-  pub low_tail : e.tail ≤ 31
-  pub low_head : e.head ≤ 31
+-- the numbers of an edge that was made: its nodes are 31 at most
+pub record Made (n : NewEdge) : Type 0 where
+  pub low_tail : n.tail ≤ 31
+  pub low_head : n.head ≤ 31
 
-pub edge_taken : (n : NewEdge) (e : Edge) → edge_made n ≡ Ok e → Made n e
+pub edge_taken : (n : NewEdge) (e : Edge) → edge_made n ≡ Ok e → Made n
 edge_taken n e is =
     let first = asked (leb n.tail 31 && (leb n.head 31 && leb n.block 63)) _ _ e is in
-    let same : e ≡ edge_of n = cc ((asked (leb n.cycles 65535 && leb n.reads 65535) _ _ e first.1).1) in
-    rw same (record { is = refl; low_tail = grind (arith, nat_tests, first.0); low_head = grind (arith, nat_tests, first.0) })
-
-by_ranges : (k : ℤ) (cs : List ℤ) (o : Option Row) (row : Row) → in_ranges k cs o ≡ Ok row → o ≡ Some row
-by_ranges k cs None row is = cc
-by_ranges k cs (Some r) row is = cc ((asked (in_range 1048576 k && (leb (length cs) 64 && all_small cs)) Numbers (Ok r) row is).1)
-
-pub row_taken : (relation k : ℤ) (cs : List ℤ) (row : Row) → row_made relation k cs ≡ Ok row → row_of relation k cs ≡ Some row
-row_taken relation k cs = by_ranges k cs (row_of relation k cs)
+    record { low_tail = grind (arith, nat_tests, first.0); low_head = grind (arith, nat_tests, first.0) }

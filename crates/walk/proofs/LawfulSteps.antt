@@ -46,9 +46,6 @@ module _ {es : List Edge} {start end : ℕ} {claimed : List ℕ} (walkable : Wal
       leaving_less : (v : ℕ) → leaving es (one_less left x) v + one_if (eqb v at) ≡ leaving es left v
       leaving_less v = grind (arith, nat_tests, by_one_less (λ d. eqb d.tail v) es left x chosen.edge held, chosen.leaves)
 
-      entering_less : (v : ℕ) → entering es (one_less left x) v + one_if (eqb v (head_of es x)) ≡ entering es left v
-      entering_less v = grind (arith, nat_tests, by_one_less (λ d. eqb d.head v) es left x chosen.edge held)
-
       -- the turn of an exit goes last: where it went, no edge had a turn to spare
       kept_on : (v : ℕ) → 0 < leaving es (one_less left x) v → 0 < get_or (one_less left x) (last_exit es claimed end v) 0
       kept_on v h =
@@ -62,7 +59,7 @@ module _ {es : List Edge} {start end : ℕ} {claimed : List ℕ} (walkable : Wal
       stepped = record {
         sized = length-set left x (get_or left x 0 - 1) ∙ inv.sized;
         claims = λ y. omega (arith, one_less_at left x y held, inv.claims y);
-        balanced = λ v. omega (arith, inv.balanced v, leaving_less v, entering_less v);
+        balanced = λ v. grind (arith, nat_tests, inv.balanced v, leaving_less v, by_one_less (λ d. eqb d.head v) es left x chosen.edge held);
         kept = kept_on;
       }
 
@@ -83,14 +80,14 @@ module _ {es : List Edge} {start end : ℕ} {claimed : List ℕ} (walkable : Wal
           (omega (arith, inv.kept v h, arrives, rw there at (inv.balanced u)))
 
       none_left : sum left ≡ 0
-      none_left = omega (arith, sum_by-le (λ t. t) 0 left (All-from_get_or (λ t. t ≤ 0) left 0 gone))
-        where
-          gone : (x : ℕ) → x < length left → get_or left x 0 ≤ 0
-          gone x low =
-              let v = tail_of es x in
-              let leaves = by_at (λ d. eqb d.tail v) es left x (omega (arith, inv.sized)) (eq-eqb v v refl) in
-              let none : leaving es left v ≡ 0 = grind (arith, none_below (suc (distance es claimed end v)) v) in
-              omega arith
+      none_left = omega (
+        arith,
+        sum_by-le (λ t. t) 0 left (All-from_get_or (λ t. t ≤ 0) left 0 (λ x low.
+            let v = tail_of es x in
+            let leaves = by_at (λ d. eqb d.tail v) es left x (omega (arith, inv.sized)) (eq-eqb v v refl) in
+            let none : leaving es left v ≡ 0 = grind (arith, none_below (suc (distance es claimed end v)) v) in
+            omega arith)),
+      )
 
     pub over : (at ≡ end) ↔ (sum left ≡ 0)
     over = (none_left, λ none. ⊎_elim (λ there. there) (λ off. absurd (omega (arith, some_left off))) (cases_eq at end))

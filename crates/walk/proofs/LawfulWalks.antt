@@ -1,5 +1,5 @@
 -- A walk by any lawful choice is a run with exactly the claimed turns, and edges that the choice answered one by one begin it.
-use Rattle.std.proofs.Common.{◌≡◌, ℕ, zero, suc, ◌+◌, ◌≤◌, ◌↔◌, List, [], ◌∷◌, ◌++◌, length, get_or, take, drop, Some, None, sum, Option, sym, refl, ap, ◌∙◌, subst, le_of_suc-le-suc, not-suc-le-zero, arith}
+use Rattle.std.proofs.Common.{◌≡◌, ℕ, zero, suc, ◌+◌, ◌≤◌, ◌↔◌, List, [], ◌∷◌, ◌++◌, length, get_or, take, drop, Some, sum, sym, refl, ap, ◌∙◌, subst, le_of_suc-le-suc, not-suc-le-zero, arith}
 use Rattle.std.proofs.lemmas.List.{take-append-drop, take_all}
 use Rattle.std.proofs.lemmas.List.Sums.{get_or-le-sum_by}
 use Rattle.task.specs.declared.edges.Edge.{Edge}
@@ -8,32 +8,23 @@ use Rattle.task.specs.Sealing.{Ends}
 use Rattle.task.specs.Sound.{Walkable}
 use Rattle.task.specs.Turns.{turns, turns_in}
 use Rattle.walk.specs.Rule.{last_exit}
-use Rattle.walk.specs.Walks.{one_less, Chooser, then_on, walk, at_after, left_after, Held, Chosen, Lawful, Sofar, Complete, Follows, Begun}
+use Rattle.walk.specs.Walks.{one_less, Chooser, walk, at_after, left_after, Held, Chosen, Lawful, Sofar, Complete, Follows, Begun}
 use Rattle.walk.proofs.TurnSums.{one_less_at, sum_one_less, turns_each}
 use Rattle.walk.proofs.LawfulSteps.{Invariant, nearer, begins, claimed_too, can_leave, held, stepped, over}
 
 -- ---- of any choice
 
 module _ (es : List Edge) (choose : Chooser) where
-  then_take : (o : Option ℕ) (k : ℕ) (f g : ℕ → List ℕ) → ((x : ℕ) → f x ≡ take k (g x)) → then_on o f ≡ take (suc k) (then_on o g)
-  then_take None k f g same = refl
-  then_take (Some x) k f g same = ap (λ xs. x ∷ xs) (same x)
-
   -- fewer steps begin the walk
   walk_take : (k n : ℕ) (left : List ℕ) (at : ℕ) → k ≤ n → walk es choose k left at ≡ take k (walk es choose n left at)
   walk_take zero n left at h = refl
   walk_take (suc k) zero left at h = absurd (not-suc-le-zero h)
-  walk_take (suc k) (suc n) left at h = then_take (choose left at) k _ _ (λ x. walk_take k n (one_less left x) (head_of es x) (le_of_suc-le-suc h))
-
-  then_follows : (o : Option ℕ) (left : List ℕ) (at : ℕ) (rest : ℕ → List ℕ) → choose left at ≡ o →
-      ((x : ℕ) → Follows es choose (one_less left x) (head_of es x) (rest x)) → Follows es choose left at (then_on o rest)
-  then_follows None left at rest e all = tt
-  then_follows (Some x) left at rest e all = (e, all x)
+  walk_take (suc k) (suc n) left at h = let ih = λ (x : ℕ). walk_take k n (one_less left x) (head_of es x) (le_of_suc-le-suc h) in grind (arith, ih)
 
   -- the walk is what the choice answers one by one, and the other way round
   walk_follows : (k : ℕ) (left : List ℕ) (at : ℕ) → Follows es choose left at (walk es choose k left at)
   walk_follows zero left at = tt
-  walk_follows (suc k) left at = then_follows (choose left at) left at _ refl (λ x. walk_follows k (one_less left x) (head_of es x))
+  walk_follows (suc k) left at = let ih = λ (x : ℕ). walk_follows k (one_less left x) (head_of es x) in grind (arith, ih)
 
   follows_walk : (xs : List ℕ) (left : List ℕ) (at : ℕ) → Follows es choose left at xs → walk es choose (length xs) left at ≡ xs
   follows_walk [] left at f = refl

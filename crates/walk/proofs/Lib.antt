@@ -1,6 +1,6 @@
+pub mod LowestNumbers
 pub mod TurnSums
 pub mod ShortestWays
-pub mod TakenEdge
 pub mod FewestStands
 pub mod LawfulSteps
 pub mod LawfulWalks

@@ -1,25 +1,20 @@
 -- The distance of a node is the length of its shortest way to the end, and its last exit is the lowest edge to a node one nearer.
-use Rattle.std.proofs.Common.{◌≡◌, ℕ, zero, suc, ◌+◌, ◌<◌, ◌≤◌, Bool, true, eqb, List, [], ◌∷◌, length, get_or, ◌∙◌, ⊎_elim, arith}
-use Rattle.std.specs.List.{All}
+use Rattle.std.proofs.Common.{All, ◌≡◌, ℕ, zero, suc, ◌+◌, ◌<◌, ◌≤◌, true, eqb, List, [], ◌∷◌, length, get_or, ◌∙◌, ⊎_elim, arith}
 use Rattle.std.proofs.lemmas.List.Elements.{All-nil, All-cons, All-head, All-tail}
-use Rattle.std.proofs.lemmas.Bool.{eqb-true, eq-eqb, ltb-true, lt-ltb, and_parts, both_ways}
+use Rattle.std.proofs.lemmas.Bool.{eqb-true, eq-eqb, ltb-true, lt-ltb, and_parts}
 use Rattle.std.proofs.lemmas.Bool.Decides.{nat_tests}
 use Rattle.task.specs.declared.edges.Edge.{Edge}
 use Rattle.task.specs.Graph.{tail_of, head_of, Path}
-use Rattle.task.specs.Lowest.{lowest}
 use Rattle.task.specs.Sound.{leaving, Reaches, Walkable}
-use Rattle.task.proofs.Lowest.{lowest_passes, lowest_misses, lowest_le}
+use Rattle.task.proofs.Lowest.{lowest_passes, lowest_le}
 use Rattle.task.proofs.Reach as ways
-use Rattle.walk.specs.Fewest.{Lowest, Fewest, Nearer, LastExit}
+use Rattle.walk.specs.Fewest.{Fewest, Nearer, LastExit}
 use Rattle.walk.specs.Rule.{has_turns, near, distance, leads_nearer, last_exit}
+use Rattle.walk.proofs.LowestNumbers.{lowest_says}
 use Rattle.walk.proofs.TurnSums.{by_some}
 
--- the lowest number that passes a test is the lowest of which holds what the test tells
-pub lowest_says : (p : ℕ → Bool) (P : ℕ → Type 0) (n : ℕ) → ((x : ℕ) → x < n → p x ≡ true → P x) → ((x : ℕ) → P x → p x ≡ true) → lowest p n < n → Lowest P (lowest p n)
-lowest_says p P n is has low = record {
-  is = is (lowest p n) low (lowest_passes p n low);
-  lowest = λ y h q. both_ways (p y) (lowest_misses p n y h) (has y q);
-}
+abbrev pub HasTurn : List ℕ → ℕ → Type 0
+HasTurn ts x = 0 < get_or ts x 0
 
 module _ (es : List Edge) (claimed : List ℕ) (end : ℕ) where
   pub near_on : (k v x : ℕ) → x < length es → tail_of es x ≡ v → 0 < get_or claimed x 0 → near es claimed end k (head_of es x) ≡ true → near es claimed end (suc k) v ≡ true
@@ -27,20 +22,17 @@ module _ (es : List Edge) (claimed : List ℕ) (end : ℕ) where
       let hop = ways.hop_from (length es) (tail_of es) (head_of es) (has_turns claimed) end v x e (lt-ltb 0 (get_or claimed x 0) held) in
       ways.within_on (length es) (tail_of es) (head_of es) (has_turns claimed) end k v (record { number = x; link = low; hops = hop; near = on })
 
-  abbrev HasTurn : ℕ → Type 0
-  HasTurn x = 0 < get_or claimed x 0
-
-  path_near : (xs : List ℕ) (v : ℕ) → Path es v end xs → All HasTurn xs → near es claimed end (length xs) v ≡ true
+  path_near : (xs : List ℕ) (v : ℕ) → Path es v end xs → All (HasTurn claimed) xs → near es claimed end (length xs) v ≡ true
   path_near [] v e all = eq-eqb v end e
-  path_near (x ∷ xs) v p all = near_on (length xs) v x p.0 p.1 (All-head HasTurn x xs all) (path_near xs (head_of es x) p.2 (All-tail HasTurn x xs all))
+  path_near (x ∷ xs) v p all = near_on (length xs) v x p.0 p.1 (All-head (HasTurn claimed) x xs all) (path_near xs (head_of es x) p.2 (All-tail (HasTurn claimed) x xs all))
 
   abbrev onward : (v x : ℕ) → x < length es → tail_of es x ≡ v → 0 < get_or claimed x 0 → Reaches es claimed end (head_of es x) → Reaches es claimed end v
-  onward v x low e held way = (x ∷ way.0, (low, e, way.1), All-cons HasTurn x way.0 held way.2)
+  onward v x low e held way = (x ∷ way.0, (low, e, way.1), All-cons (HasTurn claimed) x way.0 held way.2)
 
   pub near_way : (k v : ℕ) → near es claimed end k v ≡ true → (way : Reaches es claimed end v) × (length way.0 ≤ k)
-  near_way zero v h = (([], eqb-true v end h, All-nil HasTurn), omega arith)
+  near_way zero v h = (([], eqb-true v end h, All-nil (HasTurn claimed)), omega arith)
   near_way (suc k) v h = ⊎_elim
-      (λ e. (([], e, All-nil HasTurn), omega arith))
+      (λ e. (([], e, All-nil (HasTurn claimed)), omega arith))
       (λ on.
       let x = on.number in
       let s = near_way k (head_of es x) on.near in
@@ -83,13 +75,13 @@ module _ (es : List Edge) (claimed : List ℕ) (end : ℕ) where
   nearer_leads v x n = leads v x n.leaves n.held (omega (arith, fewest_is v (suc n.far) n.from, fewest_is (head_of es x) n.far n.to))
 
   -- the first edge of a shortest way leads one nearer
-  some_nearer : (v : ℕ) → (v ≡ end → ⊥) → (xs : List ℕ) → Path es v end xs → All HasTurn xs → length xs ≡ distance es claimed end v →
+  some_nearer : (v : ℕ) → (v ≡ end → ⊥) → (xs : List ℕ) → Path es v end xs → All (HasTurn claimed) xs → length xs ≡ distance es claimed end v →
       (x : ℕ) × (x < length es) × (leads_nearer es claimed end v x ≡ true)
   some_nearer v off [] e all long = absurd (off e)
   some_nearer v off (x ∷ xs) p all long =
-      let way : Reaches es claimed end (head_of es x) = (xs, p.2, All-tail HasTurn x xs all) in
+      let way : Reaches es claimed end (head_of es x) = (xs, p.2, All-tail (HasTurn claimed) x xs all) in
       let g = fewest (head_of es x) way in
-      let held = All-head HasTurn x xs all in
+      let held = All-head (HasTurn claimed) x xs all in
       let one : distance es claimed end (head_of es x) + 1 ≡ distance es claimed end v = omega (arith, long, no_longer (head_of es x) way, g.long, no_longer v (onward v x p.0 p.1 held g.way)) in
       (x, p.0, leads v x p.1 held one)
 
@@ -110,4 +102,4 @@ module _ (es : List Edge) (claimed : List ℕ) (end : ℕ) where
           let s = by_some (λ d. eqb d.tail v) es claimed some in
           let f = fewest v (onward v s.number s.edge (eqb-true (tail_of es s.number) v s.passes) s.held (walkable.reaches s.number s.edge s.held)) in
           let n = some_nearer v off_end f.way.0 f.way.1 f.way.2 f.long in
-          lowest_says test (Nearer es claimed end v) (length es) is_nearer (nearer_leads v) (omega (arith, n.1, lowest_le test (length es) n.0 n.2))
+          lowest_says test (length es) (Nearer es claimed end v) is_nearer (nearer_leads v) (omega (arith, n.1, lowest_le test (length es) n.0 n.2))

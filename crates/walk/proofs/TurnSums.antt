@@ -1,7 +1,9 @@
 -- Turns added up over edges, and over the places of a run.
-use Rattle.std.proofs.Common.{◌≡◌, ℕ, zero, suc, ◌+◌, ◌-◌, ◌<◌, ◌≤◌, Bool, true, cond, eqb, ◌⊎◌, List, [], ◌∷◌, length, get_or, sum, refl, ap, ◌∙◌, ap₂, ⊎_elim, le_of_suc-le-suc, not-suc-le-zero, arith}
+use Rattle.std.proofs.Common.{map, sym, add-one, ◌≡◌, ℕ, zero, suc, ◌+◌, ◌-◌, ◌<◌, ◌≤◌, Bool, true, cond, eqb, ◌⊎◌, List, [], ◌∷◌, length, get_or, sum, refl, ap, ◌∙◌, ⊎_elim, le_of_suc-le-suc, not-suc-le-zero, arith}
+use Rattle.std.specs.List.{range_with_len}
 use Rattle.std.proofs.lemmas.Bool.Decides.{nat_tests}
 use Rattle.std.proofs.lemmas.List.{get_or-set_other, get_or-set_same, get_or_past}
+use Rattle.std.proofs.lemmas.List.FromFn.{fill_by_all}
 use Rattle.std.proofs.lemmas.List.Sums.{sum_by-set}
 use Rattle.task.specs.declared.edges.Edge.{Edge}
 use Rattle.task.specs.Graph.{edge_at}
@@ -55,13 +57,9 @@ by_at p (e ∷ es) (t ∷ ts) (suc x) low q = omega (arith, by_at p es ts x (le_
 
 -- ---- the turns of a run, edge by edge
 
-from_each : (i : ℕ) (es : List Edge) (run ts : List ℕ) → length ts ≡ length es → ((x : ℕ) → x < length es → turns (i + x) run ≡ get_or ts x 0) → turns_from i es run ≡ ts
-from_each i [] run [] e all = refl
-from_each i [] run (t ∷ ts) e all = absurd (omega (arith, e))
-from_each i (d ∷ es) run [] e all = absurd (omega (arith, e))
-from_each i (d ∷ es) run (t ∷ ts) e all =
-    let here : turns i run ≡ t = ap (λ j. turns j run) (omega arith) ∙ all 0 (omega arith) in
-    ap₂ (λ n ns. n ∷ ns) here (from_each (suc i) es run ts (omega (arith, e)) (λ x h. ap (λ j. turns j run) (omega arith) ∙ all (suc x) (omega arith)))
+by_number : (i : ℕ) (es : List Edge) (run : List ℕ) → turns_from i es run ≡ map (λ x. turns x run) (range_with_len i (length es))
+by_number i [] run = refl
+by_number i (e ∷ es) run = rw add-one (ap (λ ts. turns i run ∷ ts) (by_number (suc i) es run))
 
 pub turns_each : (es : List Edge) (run ts : List ℕ) → length ts ≡ length es → ((x : ℕ) → x < length es → turns x run ≡ get_or ts x 0) → turns_in es run ≡ ts
-turns_each es run ts e all = from_each 0 es run ts e (λ x h. ap (λ j. turns j run) (omega arith) ∙ all x h)
+turns_each es run ts e all = by_number 0 es run ∙ sym (fill_by_all (λ x. turns x run) ts (length es) 0 e (λ x h. sym (all x h)))

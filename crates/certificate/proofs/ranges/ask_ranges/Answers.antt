@@ -1,9 +1,9 @@
-use Rattle.std.proofs.Common.{length, Err, sym, ap, ◌∙◌, arith, length-append}
+use Rattle.std.proofs.Common.{Err, sym, ap, ◌∙◌}
 use Rattle.std.proofs.lemmas.Result.{err_from_is_err_and}
 use Rattle.certificate.specs.Ahead.{records}
 use Rattle.certificate.specs.Verdicts.{range_answer}
-use Rattle.certificate.proofs.Bounds.{record_bounded}
-use Rattle.certificate.proofs.FrontRecords.{in_front, none_in_front}
+use Rattle.certificate.proofs.RecordsBounded.{record_bounded}
+use Rattle.certificate.proofs.FrontRecords.{in_front}
 use Rattle.certificate.proofs.RangeAnswers.{first_asked}
 use Rattle.certificate.proofs.TreeRecords.{tests_tree}
 use Rattle.certificate.proofs.ranges.ask_ranges.Goals as goal
@@ -12,14 +12,6 @@ pub loop-record-init : goal.loop-record-init
 loop-record-init c t s =
     let start = c.new-records.ensures in
     (records t, (start.ahead t s, record { same = λ i. range_answer (sym start.first.2 i) (sym (tests_tree c.args.limits.edges c.args.limits.top t) i) }))
-
-pub place-requires : goal.place-requires
-place-requires c = let w = c.loop-record.invariant c.requires.1.0 c.requires.1.1 in (w.0, w.1.0)
-
-pub ask_record-requires : goal.ask_record-requires
-ask_record-requires c =
-    let w = in_front (c.loop-record.invariant c.requires.1.0 c.requires.1.1) c.in-Some.ensures in
-    omega (arith, w.1.counted, simp length-append at (ap length w.1.is), c.loop-record.records.short, c.place.ensures)
 
 pub returns-in_err-ask_record : goal.returns-in_err-ask_record
 returns-in_err-ask_record c t s =
@@ -38,6 +30,3 @@ loop-record-preserved c t s =
     let next = c.pass.ensures.ahead w.0 w.1 w.3 in
     let rest = (first_asked w.2 c.place.ensures).passed c.in_ok-ask_record.ensures in
     (w.0, (next.0, record { same = rw (next.1) rest }))
-
-pub returns : goal.returns
-returns c t s = sym ((none_in_front (c.loop-record.invariant t s) c.in_default.ensures).same)

@@ -1,7 +1,7 @@
 use Rattle.std.proofs.Common.{[], ◌∷◌}
 use Rattle.std.proofs.lemmas.Bool.Decides.{Decides-eqb}
 use Rattle.std.proofs.lemmas.Slice.Eq.{strip_suffix_is}
-use Rattle.console.proofs.Feeds.{stripped}
+use Rattle.console.proofs.FirstLine.{stripped}
 use Rattle.console.proofs.sessions.without_feed.Goals as goal
 
 pub returns : goal.returns

@@ -2,7 +2,7 @@
 use Rattle.std.proofs.Common.{◌≡◌, ◌-◌, ◌≤◌}
 use Rattle.arrayvec.specs.ArrayVec.{array_vec_len}
 use Rattle.grammar.specs.Reading.{integers_in}
-use Rattle.grammar.proofs.Listing.{behind}
+use Rattle.grammar.proofs.OneNumberMore.{behind}
 use Rattle.grammar.proofs.list.integers.Given as goal
 
 abbrev pub invariant-loop-rest : goal.invariant-loop-rest

@@ -1,7 +1,7 @@
 -- What was read and what is still to read make up the answer.
 use Rattle.std.proofs.Common.{◌≡◌, ◌-◌, length, take}
 use Rattle.grammar.specs.Reading.{naturals_front}
-use Rattle.grammar.proofs.Listing.{joined}
+use Rattle.grammar.proofs.OneNumberMore.{joined}
 use Rattle.grammar.proofs.list.naturals.Given as goal
 
 abbrev pub invariant-loop-slot : goal.invariant-loop-slot

@@ -25,7 +25,7 @@ loop-call-preserved g c =
       omega (arith, c.push_reserved.ensures.len, c.loop-call.answers.ok.0, c.push_reserved.new.self.ok.0, c.loop-call.invariant.0),
       omega (arith, c.push_reserved.ensures.capacity, c.loop-call.invariant.1),
       subst (λ l. Reached le unit l c.perform.new.case)
-          (sym (history_step calls old (vec_items c.push_reserved.new.self) i c.perform.result (Edge 0 0 0 0 0) c.loop-call.invariant.0 c.loop-call-test.true pushed))
+          (sym (history_step calls old (vec_items c.push_reserved.new.self) i c.perform.result (Edge (record { tail = 0; head = 0; block = 0; cycles = 0; reads = 0 })) c.loop-call.invariant.0 c.loop-call-test.true pushed))
           (c.perform.ensures.rules.reached (history (take i calls) old) c.loop-call.invariant.2),
     )
 

@@ -12,11 +12,11 @@ pub loop-x-preserved-then-leads_nearer : goal.loop-x-preserved-then-leads_nearer
 loop-x-preserved-then-leads_nearer c =
     let read = get_or_default c.args.flow.edges.now (c.loop-x.x - 1) c.index-flow-x.result no_edge (omega arith) in
     exits_set c.args.flow.edges.now c.args.flow.turns.now c.args.end c.to_end-table.result.far c.loop-x.exits (c.loop-x.x - 1) c.loop-x.x c.to_end-table.ensures
-    c.leads_nearer.ensures.low (omega arith) c.loop-x.invariant c.index.result (sym (c.index.ensures.place ∙ ap (λ e. e.tail) read)) (omega arith) (sym c.if-leads_nearer.ensures.answer)
+    c.leads_nearer.ensures.low (omega arith) (omega arith) c.loop-x.invariant c.index.result (sym (c.index.ensures.place ∙ ap (λ e. e.tail) read)) c.index.ensures.low (sym c.if-leads_nearer.ensures.answer)
 
 pub loop-x-preserved : goal.loop-x-preserved
 loop-x-preserved c = exits_pass c.args.flow.edges.now c.args.flow.turns.now c.args.end c.to_end-table.result.far c.loop-x.exits (c.loop-x.x - 1) c.loop-x.x
-    c.to_end-table.ensures c.leads_nearer.ensures.low (omega arith) c.loop-x.invariant (sym c.if-leads_nearer.ensures.answer)
+    c.to_end-table.ensures c.leads_nearer.ensures.low (omega arith) (omega arith) c.loop-x.invariant (sym c.if-leads_nearer.ensures.answer)
 
 pub returns : goal.returns
 returns c =

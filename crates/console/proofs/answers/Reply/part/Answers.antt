@@ -1,4 +1,4 @@
-use Rattle.console.proofs.Lengths.{part_fits}
+use Rattle.console.proofs.ShortParts.{part_fits}
 use Rattle.std.proofs.lemmas.Int.{to_z-of_z}
 use Rattle.console.proofs.answers.Reply.part.Goals as goal
 
