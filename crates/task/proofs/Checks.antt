@@ -12,7 +12,7 @@ use Rattle.task.specs.Rows.{Row, Keeps}
 use Rattle.task.specs.Sides.{node_count}
 use Rattle.task.specs.Sound.{InRange, Balanced, Onward, no_row, row_at, Sound, Counted, Flowing, Checked, turns_count, turns_range, node_unbalanced, edge_stranded, row_broken, turns_sound}
 use Rattle.task.specs.TurnsAnswer.{over, unbalanced, stranded, broken, unless, turns_answer}
-use Rattle.task.proofs.FirstAndOnly.{first_says}
+use Rattle.task.proofs.Lowest.{first_says}
 use Rattle.task.proofs.Seals.{node_below, below_node}
 use Rattle.task.proofs.Flows.{balanced_tells, onward_tells, keeps_tells}
 

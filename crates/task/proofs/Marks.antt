@@ -27,22 +27,20 @@ module _ (marks : List Bool) (u v : ℕ) where
 -- ---- one pass, from the last edge to the first
 
 module _ (es : List Edge) (ts : List ℕ) (side : Side) (before after : List Bool) (settled : Bool) (n x : ℕ) (pass : Pass es ts side before after settled n) where
-  pub pass_marks : x < length es → is_live ts x ≡ true → is_marked after (end_of es (other_side side) x) ≡ true →
-      end_of es side x < length after → is_marked after (end_of es side x) ≡ false → Pass es ts side before (set after (end_of es side x) true) false x
-  pass_marks low on there small blank =
-      let u = end_of es side x in
-      record {
-        sized = length-set after u true ∙ pass.sized;
-        keeps = λ v m. mark_kept after u v small (pass.keeps v m);
-        right = λ p spreads so v m. ⊎_elim
-            (λ (e : v ≡ u). rw e (spreads x low on (pass.right p spreads so (end_of es (other_side side) x) there)))
-            (λ was. pass.right p spreads so v was)
-            (mark_cases after u v m);
-        done = λ s. absurd (both_ways false refl s);
-        fewer =
-            let one : unmarked (set after u true) + one_if (not (get_or after u false)) ≡ unmarked after + 0 = sum_by-set (λ m. one_if (not m)) after u true false small in
-            omega (arith, pass.fewer, one, ap (λ b. one_if (not b)) blank);
-      }
+  pub pass_marks : (u w : ℕ) → u ≡ end_of es side x → w ≡ end_of es (other_side side) x → x < length es → is_live ts x ≡ true → is_marked after w ≡ true →
+      u < length after → is_marked after u ≡ false → Pass es ts side before (set after u true) false x
+  pass_marks u w from to low on there small blank = record {
+    sized = length-set after u true ∙ pass.sized;
+    keeps = λ v m. mark_kept after u v small (pass.keeps v m);
+    right = λ p spreads so v m. ⊎_elim
+        (λ (e : v ≡ u). rw (e, from) (spreads x low on (rw to at (pass.right p spreads so w there))))
+        (λ was. pass.right p spreads so v was)
+        (mark_cases after u v m);
+    done = λ s. absurd (both_ways false refl s);
+    fewer =
+        let one : unmarked (set after u true) + one_if (not (get_or after u false)) ≡ unmarked after + 0 = sum_by-set (λ m. one_if (not m)) after u true false small in
+        omega (arith, pass.fewer, one, ap (λ b. one_if (not b)) blank);
+  }
 
 -- ---- until nothing changes
 

@@ -15,7 +15,7 @@ use Rattle.task.specs.Graph.{no_edge, tail_of, head_of, Node, Start, End, Path}
 use Rattle.task.specs.Sides.{end_at, end_of, node_count, touched, untouched, is_live, reaches}
 use Rattle.task.specs.Sealing.{OneStart, OneEnd, OnPath, Ends, Sealed, not_one_start, not_one_end, node_astray, sealed, EdgeOnPath, EveryEdge}
 use Rattle.task.specs.EndsAnswer.{astray, unless_astray, ends_of, ends_answer}
-use Rattle.task.proofs.FirstAndOnly.{first_says, Sole, sole_says}
+use Rattle.task.proofs.Lowest.{first_says, Sole, sole_says}
 use Rattle.task.proofs.Reach.{way_back}
 use Rattle.task.proofs.Marks.{reached_way, way_reached}
 

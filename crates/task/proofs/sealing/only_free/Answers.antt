@@ -1,6 +1,6 @@
 use Rattle.std.proofs.Common.{◌≡◌, Some, ◌∙◌, rules, arith}
 use Rattle.task.specs.Sides.{untouched}
-use Rattle.task.proofs.FirstAndOnly.{found_none, found_one, found_two}
+use Rattle.task.proofs.Lowest.{found_none, found_one, found_two}
 use Rattle.task.proofs.sealing.only_free.Goals as goal
 
 pub returns-in_err-only : goal.returns-in_err-only

@@ -3,7 +3,7 @@ use Rattle.std.proofs.lemmas.Iterator.{YieldsList-from_slice}
 use Rattle.std.proofs.lemmas.Iterator.Search.{position_from_yields_List}
 use Rattle.task.specs.Sound.{no_row}
 use Rattle.task.specs.TurnsAnswer.{broken, kept}
-use Rattle.task.proofs.LibraryCalls.{position_first}
+use Rattle.task.proofs.Lowest.{position_first}
 use Rattle.task.proofs.tasks.Flow.first_broken.Goals as goal
 
 pub returns : goal.returns

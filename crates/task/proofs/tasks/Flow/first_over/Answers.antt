@@ -2,7 +2,7 @@ use Rattle.std.proofs.Common.{ltb, refl, ◌∙◌, rules, tests}
 use Rattle.std.proofs.lemmas.Iterator.{YieldsList-from_slice}
 use Rattle.std.proofs.lemmas.Iterator.Search.{position_from_yields_List}
 use Rattle.task.specs.TurnsAnswer.{over}
-use Rattle.task.proofs.LibraryCalls.{position_first}
+use Rattle.task.proofs.Lowest.{position_first}
 use Rattle.task.proofs.tasks.Flow.first_over.Goals as goal
 
 pub returns : goal.returns

@@ -6,7 +6,7 @@ use Rattle.task.specs.declared.edges.Edge.{Edge}
 use Rattle.task.specs.declared.edges.Side.TheVariants.{Tail}
 use Rattle.task.specs.Graph.{no_edge}
 use Rattle.task.specs.Sides.{is_live, reaches}
-use Rattle.task.proofs.LibraryCalls.{position_numbered}
+use Rattle.task.proofs.Lowest.{position_numbered}
 use Rattle.task.proofs.tasks.Flow.first_stranded.Goals as goal
 
 pub returns : goal.returns

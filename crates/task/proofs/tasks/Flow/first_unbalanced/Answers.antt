@@ -2,7 +2,7 @@ use Rattle.std.proofs.Common.{◌≡◌, true, false, rules, tests}
 use Rattle.std.proofs.lemmas.Iterator.{first_from_Range}
 use Rattle.task.specs.Sides.{node_count}
 use Rattle.task.specs.TurnsAnswer.{unbalanced}
-use Rattle.task.proofs.FirstAndOnly.{found_first}
+use Rattle.task.proofs.Lowest.{found_first}
 use Rattle.task.proofs.tasks.Flow.first_unbalanced.Goals as goal
 
 pub returns : goal.returns

@@ -2,7 +2,7 @@ use Rattle.std.proofs.Common.{arith, w32, SFits, rules}
 use Rattle.std.proofs.lemmas.Int.{ints, to_z-of_z}
 use Rattle.task.specs.declared.edges.Edge.{Edge}
 use Rattle.task.specs.Rows.{coefficient}
-use Rattle.task.proofs.ByEdges.{row_by_edges}
+use Rattle.task.proofs.ByPlaces.{row_by_edges}
 use Rattle.task.proofs.EdgeSums.{edge_read, weighed_next, weighed_done}
 use Rattle.task.proofs.tasks.Flow.row_sum.Goals as goal
 
