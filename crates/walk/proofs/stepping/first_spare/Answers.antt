@@ -1,6 +1,6 @@
 use Rattle.std.proofs.Common.{◌≡◌, true, false, length, refl, rules, tests}
 use Rattle.std.proofs.lemmas.Iterator.{first_from_Range}
-use Rattle.task.proofs.Only.{found_first}
+use Rattle.task.proofs.FirstAndOnly.{found_first}
 use Rattle.walk.specs.Rule.{spares}
 use Rattle.walk.proofs.stepping.first_spare.Goals as goal
 
