@@ -15,6 +15,10 @@ pub data Request : Type 0 where
   withdraw : Request
   told : Request
 
+-- the call of an edge by its five numbers
+abbrev pub edge_with : (tail head block cycles reads : ℕ) → Request
+edge_with tail head block cycles reads = edge (record { tail = tail; head = head; block = block; cycles = cycles; reads = reads })
+
 abbrev pub request : Call → Request
 request (Edge new) = edge new
 request (Row relation k coefficients) = row relation k coefficients.now

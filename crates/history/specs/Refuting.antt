@@ -2,24 +2,21 @@
 use Rattle.std.specs.Prelude.{◌≡◌, ℕ, Bool, false, List, [], ◌∷◌, ◌++◌, ℤ, pos, negsuc, ◌≢◌}
 use Rattle.history.specs.Answers.{number, ends, price, next, done, agreed, refused, told as tells}
 use Rattle.judge.specs.Reports.{State}
-use Rattle.history.specs.Calls.{Request, edge, row, seal, claim, void, step, withdraw, told}
+use Rattle.history.specs.Calls.{edge_with, row, seal, claim, void, step, withdraw, told}
 use Rattle.history.specs.History.{History, ◌gives◌, with_call}
 use Rattle.history.specs.Rules.{Rules}
 use Rattle.price.specs.Pairs.{Pair}
 use Rattle.judge.specs.declared.refusals.Refusal.{Refusal}
 use Rattle.judge.specs.declared.refusals.Refusal.TheVariants.{EdgeRepeated}
 
-abbrev an_edge : (tail head block cycles reads : ℕ) → Request
-an_edge tail head block cycles reads = edge (record { tail = tail; head = head; block = block; cycles = cycles; reads = reads })
-
 -- four edges, a refused fifth, a row, and the end of the draft
 abbrev pub task : History
 task =
-    an_edge 0 1 0 20 1 gives number 0
-    ∷ an_edge 1 2 1 50 4 gives number 1
-    ∷ an_edge 2 1 2 5 0 gives number 2
-    ∷ an_edge 2 3 3 10 2 gives number 3
-    ∷ an_edge 2 3 9 9 9 gives refused EdgeRepeated
+    edge_with 0 1 0 20 1 gives number 0
+    ∷ edge_with 1 2 1 50 4 gives number 1
+    ∷ edge_with 2 1 2 5 0 gives number 2
+    ∷ edge_with 2 3 3 10 2 gives number 3
+    ∷ edge_with 2 3 9 9 9 gives refused EdgeRepeated
     ∷ row (pos 1) (pos 0) (negsuc 2 ∷ pos 0 ∷ pos 1 ∷ []) gives number 0
     ∷ seal gives ends 0 3
     ∷ []

@@ -3,44 +3,48 @@ use Rattle.std.proofs.Common.{◌≡◌, ℕ, Bool, true, false, not, ◌&&◌, 
 use Rattle.std.proofs.lemmas.Bool.{and_from, le-leb}
 use Rattle.price.specs.Questions.{ask}
 use Rattle.price.specs.Tariffs.{by_cycles, one_read}
-use Rattle.price.specs.declared.refusals.Refusal.{Refusal}
-use Rattle.price.specs.declared.refusals.Refusal.TheVariants.{EdgeRepeated, Stranded}
-use Rattle.task.specs.Edges.{edge_made, repeated}
+use Rattle.judge.specs.declared.refusals.Refusal.TheVariants.{Edge as EdgeRefused, EdgeRepeated, Turns}
+use Rattle.task.specs.declared.edges.NewEdge.{NewEdge}
+use Rattle.task.specs.declared.faults.TurnsFault.TheVariants.{Stranded}
+use Rattle.task.specs.Edges.{edge_of, edge_made, repeated}
 use Rattle.task.specs.Sides.{reaches}
 use Rattle.task.specs.declared.edges.Edge.{Edge}
 use Rattle.judge.specs.Cases.{Contents}
-use Rattle.judge.specs.Drafting.{and_then, if_made, edge_answer, edge_kept}
+use Rattle.judge.specs.Drafting.{then_ask, edge_answer, edge_kept}
 use Rattle.judge.specs.Stages.{draft}
 use Rattle.history.specs.Answers.{number, ends, refused, numbered}
 use Rattle.history.specs.Calls.{Request, seal, claim}
 use Rattle.trials.specs.Playing.{answers_from}
 use Rattle.trials.specs.Worked.{Costs, an_edge, BalancedButNoRun}
 
+abbrev numbers : ℕ → ℕ → Costs → NewEdge
+numbers tail head c = record { tail = tail; head = head; block = c.block; cycles = c.cycles; reads = c.reads }
+
 abbrev made_of : ℕ → ℕ → Costs → Edge
-made_of tail head c = record { tail = tail; head = head; block = c.block; cycles = c.cycles; reads = c.reads }
+made_of tail head c = edge_of (numbers tail head c)
 
 -- a draft of these edges
 abbrev holds : List Edge → Contents
 holds es = record { stage = draft; edges = es; rows = [] }
 
-yes : {A : Type 0} (b : Bool) (refusal : Refusal) (r : Result A Refusal) → b ≡ true → ask b refusal r ≡ r
+yes : {A E : Type 0} (b : Bool) (refusal : E) (r : Result A E) → b ≡ true → ask b refusal r ≡ r
 yes b refusal r is = ap (λ v. ask v refusal r) is
 
 module _ (es : List Edge) (tail head : ℕ) (c : Costs) (low : leb tail 31 ≡ true) (low' : leb head 31 ≡ true) (few : ltb (length es) 64 ≡ true) (new : repeated (made_of tail head c) es ≡ false) where
-  made : edge_made tail head c.block c.cycles c.reads ≡ Ok (made_of tail head c)
+  made : edge_made (numbers tail head c) ≡ Ok (made_of tail head c)
   made =
       yes (leb tail 31 && (leb head 31 && leb c.block 63)) _ _
       (and_from (leb tail 31) (leb head 31 && leb c.block 63) low (and_from (leb head 31) (leb c.block 63) low' (le-leb c.block 63 c.low)))
       ∙ yes (leb c.cycles 65535 && leb c.reads 65535) _ _
       (and_from (leb c.cycles 65535) (leb c.reads 65535) (le-leb c.cycles 65535 c.few_cycles) (le-leb c.reads 65535 c.few_reads))
 
-  says : edge_answer (holds es) tail head c.block c.cycles c.reads ≡ Ok (length es)
+  says : edge_answer (holds es) (numbers tail head c) ≡ Ok (length es)
   says =
-      yes (ltb (length es) 64) _ _ few ∙ ap (λ m. and_then m (λ e. ask (not (repeated e es)) EdgeRepeated (Ok (length es)))) made
+      yes (ltb (length es) 64) _ _ few ∙ ap (λ m. then_ask EdgeRefused m (λ e. ask (not (repeated e es)) EdgeRepeated (Ok (length es)))) made
       ∙ yes (not (repeated (made_of tail head c) es)) _ _ (ap not new)
 
-  leaves : edge_kept (edge_answer (holds es) tail head c.block c.cycles c.reads) (holds es) tail head c.block c.cycles c.reads ≡ holds (es ++ (made_of tail head c ∷ []))
-  leaves = ap (λ r. edge_kept r (holds es) tail head c.block c.cycles c.reads) says ∙ ap (λ m. holds (es ++ if_made m)) made
+  leaves : edge_kept (edge_answer (holds es) (numbers tail head c)) (holds es) (numbers tail head c) ≡ holds (es ++ (made_of tail head c ∷ []))
+  leaves = ap (λ r. edge_kept r (holds es) (numbers tail head c)) says
 
   -- one more edge is taken
   one_edge : (calls : List Request) → answers_from by_cycles one_read (holds es) (an_edge tail head c ∷ calls) ≡ number (length es) ∷ answers_from by_cycles one_read (holds (es ++ (made_of tail head c ∷ []))) calls
@@ -49,7 +53,7 @@ module _ (es : List Edge) (tail head : ℕ) (c : Costs) (low : leb tail 31 ≡ t
 -- the claim, whatever the edges cost
 stranded : (a b c d e : Costs) (tree : List ℤ) →
     answers_from by_cycles one_read (holds (made_of 0 1 a ∷ made_of 1 3 b ∷ made_of 1 2 c ∷ made_of 2 2 d ∷ made_of 2 3 e ∷ [])) (seal ∷ claim (1 ∷ 1 ∷ 0 ∷ 5 ∷ 0 ∷ []) tree ∷ [])
-    ≡ ends 0 3 ∷ refused (Stranded 3) ∷ []
+    ≡ ends 0 3 ∷ refused (Turns (Stranded 3)) ∷ []
 unfolding reaches
 stranded a b c d e tree = refl
 

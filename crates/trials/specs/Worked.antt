@@ -1,20 +1,21 @@
 -- The worked cases of the rules.
-use Rattle.std.specs.Prelude.{ℕ, ◌≤◌, List, [], ◌∷◌, ◌++◌, ℤ, pos, negsuc}
+use Rattle.std.specs.Prelude.{All, ℕ, ◌≤◌, List, [], ◌∷◌, ◌++◌, ℤ, pos, negsuc}
 use Rattle.history.specs.Answers.{Said, number, ends, price, next, done, agreed, refused}
-use Rattle.history.specs.Calls.{Request, edge, row, seal, claim, void, step}
+use Rattle.history.specs.Calls.{Request, edge_with, row, seal, claim, void, step}
 use Rattle.price.specs.Tariffs.{by_cycles, one_read, by_weight, one_cycle}
-use Rattle.price.specs.declared.refusals.Refusal.TheVariants.{Stranded, RowBroken, NotOneTree, TreeRange, AllowanceShort, BoundTooHigh}
-use Rattle.std.specs.List.{AllByRecursion}
+use Rattle.judge.specs.declared.refusals.Refusal.TheVariants.{Turns, Tree}
+use Rattle.certificate.specs.declared.faults.TreeFault.TheVariants.{NotOneTree, Range, AllowanceShort, BoundTooHigh}
+use Rattle.task.specs.declared.faults.TurnsFault.TheVariants.{Stranded, RowBroken}
 use Rattle.trials.specs.Playing.{Trial, Stands}
 
 -- ---- the loop: enter, sample, retry, leave
 
 abbrev pub loop : List Request
-loop = edge 0 1 0 20 1 ∷ edge 1 2 1 50 4 ∷ edge 2 1 2 5 0 ∷ edge 2 3 3 10 2 ∷ []
+loop = edge_with 0 1 0 20 1 ∷ edge_with 1 2 1 50 4 ∷ edge_with 2 1 2 5 0 ∷ edge_with 2 3 3 10 2 ∷ []
 
 -- the same, where only the retry costs anything
 abbrev pub cheap_loop : List Request
-cheap_loop = edge 0 1 0 0 0 ∷ edge 1 2 1 0 0 ∷ edge 2 1 2 1 0 ∷ edge 2 3 3 0 0 ∷ []
+cheap_loop = edge_with 0 1 0 0 0 ∷ edge_with 1 2 1 0 0 ∷ edge_with 2 1 2 1 0 ∷ edge_with 2 3 3 0 0 ∷ []
 
 -- the retry at most three times as often as the entry; twice the retry at most three times the entry; no sample
 abbrev pub three_retries : Request
@@ -78,26 +79,26 @@ table =
     by_cycles_first (drafted loop three_retries (claim most (one_leaf 1 245) ∷ step ∷ step ∷ step ∷ step ∷ step ∷ step ∷ step ∷ step ∷ step ∷ step ∷ []))
     (drafted_said (price (pos 245, pos 19) ∷ next 0 ∷ next 1 ∷ next 2 ∷ next 1 ∷ next 2 ∷ next 1 ∷ next 2 ∷ next 1 ∷ next 3 ∷ done ∷ []))
     -- a potential too low
-    ∷ retry most (one_leaf 1 244) (refused (AllowanceShort 0 0))
+    ∷ retry most (one_leaf 1 244) (refused (Tree (AllowanceShort 0 0)))
     -- a cheaper run claimed
-    ∷ retry (1 ∷ 3 ∷ 2 ∷ 1 ∷ []) (one_leaf 1 245) (refused (BoundTooHigh 0))
+    ∷ retry (1 ∷ 3 ∷ 2 ∷ 1 ∷ []) (one_leaf 1 245) (refused (Tree (BoundTooHigh 0)))
     -- a row broken
-    ∷ retry (1 ∷ 5 ∷ 4 ∷ 1 ∷ []) (one_leaf 1 245) (refused (RowBroken 0))
+    ∷ retry (1 ∷ 5 ∷ 4 ∷ 1 ∷ []) (one_leaf 1 245) (refused (Turns (RowBroken 0)))
     -- a half-integral row with one split, and its second leaf too weak
     ∷ halves 2 (price (pos 135, pos 11))
-    ∷ halves 1 (refused (BoundTooHigh 1))
+    ∷ halves 1 (refused (Tree (BoundTooHigh 1)))
     -- a leaf of scale 2 under weight 2, and cycles first
     ∷ record { le = by_weight 2; unit = one_cycle; calls = at_scale_two; answers = drafted_said (price (pos 1, pos 0) ∷ []) }
-    ∷ by_cycles_first at_scale_two (drafted_said (refused (BoundTooHigh 0) ∷ []))
+    ∷ by_cycles_first at_scale_two (drafted_said (refused (Tree (BoundTooHigh 0)) ∷ []))
     -- no run at all
     ∷ by_cycles_first
     (drafted loop no_sample (void (pos 0 ∷ pos 0 ∷ pos 0 ∷ pos 0 ∷ pos 0 ∷ pos 0 ∷ pos 1 ∷ pos 0 ∷ pos 1 ∷ pos 0 ∷ pos 1 ∷ pos 0 ∷ []) ∷ []))
     (drafted_said (agreed ∷ []))
     -- a list one number short
-    ∷ retry most one_short (refused NotOneTree)
+    ∷ retry most one_short (refused (Tree NotOneTree))
     -- a scale out of range, and one that proves nothing
-    ∷ retry most (one_leaf 1001 245) (refused (TreeRange 1))
-    ∷ retry most (one_leaf 1000 245) (refused (AllowanceShort 0 0))
+    ∷ retry most (one_leaf 1001 245) (refused (Tree (Range 1)))
+    ∷ retry most (one_leaf 1000 245) (refused (Tree (AllowanceShort 0 0)))
     ∷ []
 
 -- ---- balanced turns that are no run
@@ -112,15 +113,15 @@ pub record Costs : Type 0 where
   pub few_reads : reads ≤ 65535
 
 abbrev pub an_edge : ℕ → ℕ → Costs → Request
-an_edge tail head c = edge tail head c.block c.cycles c.reads
+an_edge tail head c = edge_with tail head c.block c.cycles c.reads
 
 -- a loop that the run never enters: refused at edge 3, whatever the blocks, the prices and the tree
 abbrev pub BalancedButNoRun : Type 0
 BalancedButNoRun = (a b c d e : Costs) (tree : List ℤ) →
     Stands (by_cycles_first
     (an_edge 0 1 a ∷ an_edge 1 3 b ∷ an_edge 1 2 c ∷ an_edge 2 2 d ∷ an_edge 2 3 e ∷ seal ∷ claim (1 ∷ 1 ∷ 0 ∷ 5 ∷ 0 ∷ []) tree ∷ [])
-    (number 0 ∷ number 1 ∷ number 2 ∷ number 3 ∷ number 4 ∷ ends 0 3 ∷ refused (Stranded 3) ∷ []))
+    (number 0 ∷ number 1 ∷ number 2 ∷ number 3 ∷ number 4 ∷ ends 0 3 ∷ refused (Turns (Stranded 3)) ∷ []))
 
 pub record WorkedCasesStand : Type 0 where
-  pub cases : AllByRecursion Stands table
+  pub cases : All Stands table
   pub no_run : BalancedButNoRun

@@ -4,9 +4,10 @@ use crate::refused::show_refused;
 use anyhow::anyhow;
 use console::session;
 use history::{Answer, Call, perform, play};
-use judge::Case;
-use price::{CyclesFirst, Refusal, Tariff, Weighted};
+use judge::{Case, Refusal};
+use price::{CyclesFirst, Tariff, Weighted};
 use std::alloc::Global;
+use task::NewEdge;
 
 // Prints what was answered to a claim.
 fn tell(rt: &HostRuntime, name: &str, answer: Result<Answer, Refusal>) -> anyhow::Result<()> {
@@ -87,13 +88,13 @@ pub(crate) fn show_scales(rt: &HostRuntime) -> anyhow::Result<()> {
 pub(crate) fn claim_deep(rt: &HostRuntime) -> anyhow::Result<()> {
     let heap = rt.alloc();
     let tree = deep_tree(heap)?;
-    let edge = Call::Edge {
+    let edge = Call::Edge(NewEdge {
         tail: 0,
         head: 1,
         block: 0,
         cycles: 20,
         reads: 1,
-    };
+    });
     let claim = Call::Claim {
         turns: &[1],
         tree: &tree,

@@ -30,7 +30,7 @@ fn show_part(rt: &HostRuntime, cycles: i64, reads: i64) -> anyhow::Result<()> {
             println!(rt; "made, {} {}", price.cycles(), price.reads())?;
             Ok(())
         }
-        Err(refusal) => show_refused(rt, refusal),
+        Err(fault) => show_refused(rt, fault.into()),
     }
 }
 
@@ -49,7 +49,7 @@ fn show_weight(rt: &HostRuntime, weight: u32, most: Price, read: Price) -> anyho
             println!(rt; "made, {} and {}", tariff.weigh(most), tariff.weigh(read))?;
             Ok(())
         }
-        Err(refusal) => show_refused(rt, refusal),
+        Err(fault) => show_refused(rt, fault.into()),
     }
 }
 

@@ -1,5 +1,5 @@
 // How a trial prints a refusal.
-use price::Refusal;
+use judge::Refusal;
 
 // Ends a line with the question that was failed, and its places.
 pub(crate) fn show_refused(rt: &HostRuntime, refusal: Refusal) -> anyhow::Result<()> {
