@@ -1,18 +1,16 @@
 -- What the answer of `check_turns` says.
-use Rattle.std.proofs.Common.{◌≡◌, ℕ, ◌<◌, Bool, true, false, not, ◌↔◌, List, length, Some, None, Ok, Err, Option, Result, sym, refl, subst, arith}
-use Rattle.std.specs.Bool.{Decides}
+use Rattle.std.proofs.Common.{◌≡◌, ℕ, ◌<◌, Bool, true, false, ◌↔◌, List, length, Ok, Err, Option, Result, sym, refl, subst, arith}
 use Rattle.price.specs.Questions.{ask}
 use Rattle.task.specs.declared.faults.TurnsFault.{TurnsFault}
 use Rattle.task.specs.declared.faults.TurnsFault.TheVariants.{Count, Range, Unbalanced, Stranded, RowBroken}
 use Rattle.std.proofs.lemmas.List.Elements.{All-get_or, All-from_get_or}
-use Rattle.std.proofs.lemmas.Bool.{both_ways, eqb-true, eqb-false, not_from_true, not_from_false}
+use Rattle.std.proofs.lemmas.Bool.{eqb-true, eqb-false}
 use Rattle.std.proofs.lemmas.Bool.Decides.{nat_tests}
 use Rattle.task.specs.declared.edges.Edge.{Edge}
 use Rattle.task.specs.Graph.{Node}
-use Rattle.task.specs.Lowest.{first}
 use Rattle.task.specs.Rows.{Row, Keeps}
 use Rattle.task.specs.Sides.{node_count}
-use Rattle.task.specs.Sound.{InRange, Balanced, Onward, no_row, row_at, Sound, LowestFailing, Counted, Flowing, Checked, turns_count, turns_range, node_unbalanced, edge_stranded, row_broken, turns_sound}
+use Rattle.task.specs.Sound.{InRange, Balanced, Onward, no_row, row_at, Sound, Counted, Flowing, Checked, turns_count, turns_range, node_unbalanced, edge_stranded, row_broken, turns_sound}
 use Rattle.task.specs.TurnsAnswer.{over, unbalanced, stranded, broken, unless, turns_answer}
 use Rattle.task.proofs.Lowest.{first_says}
 use Rattle.task.proofs.Seals.{node_below, below_node}

@@ -1,14 +1,10 @@
 -- What numbers that make an edge have passed.
-use Rattle.std.proofs.Common.{◌≡◌, ◌≤◌, Bool, true, false, ◌&&◌, leb, List, length, ℤ, Some, None, Ok, Option, Result, refl, arith}
+use Rattle.std.proofs.Common.{◌≡◌, ◌≤◌, Bool, true, false, ◌&&◌, leb, Ok, Result, refl, arith}
 use Rattle.std.proofs.lemmas.Bool.Decides.{nat_tests}
 use Rattle.price.specs.Questions.{ask}
 use Rattle.task.specs.declared.edges.Edge.{Edge}
 use Rattle.task.specs.declared.edges.NewEdge.{NewEdge}
-use Rattle.task.specs.declared.faults.RowFault.TheVariants.{Numbers}
-use Rattle.task.specs.Coefficients.{in_range, all_small}
-use Rattle.task.specs.Edges.{edge_of, edge_made}
-use Rattle.task.specs.NewRows.{row_of, in_ranges, row_made}
-use Rattle.task.specs.Rows.{Row}
+use Rattle.task.specs.Edges.{edge_made}
 
 -- a question that was passed, and what was asked after it
 pub asked : {A E : Type 0} (b : Bool) (refusal : E) (r : Result A E) (x : A) → ask b refusal r ≡ Ok x → (b ≡ true) × (r ≡ Ok x)

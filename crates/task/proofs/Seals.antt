@@ -1,5 +1,5 @@
 -- What the answer of `ends` says of nodes and paths.
-use Rattle.std.proofs.Common.{◌≡◌, ℕ, suc, ◌+◌, ◌<◌, ◌≤◌, max, true, false, eqb, ◌⊎◌, ◌↔◌, List, [], ◌∷◌, length, Some, None, Ok, Option, Result, ◌≢◌, not, sym, refl, ◌∙◌, subst, inl, inr, ⊎_elim, arith}
+use Rattle.std.proofs.Common.{◌≡◌, ℕ, suc, ◌+◌, ◌<◌, ◌≤◌, max, true, eqb, ◌⊎◌, ◌↔◌, List, [], ◌∷◌, length, Some, None, Ok, Option, Result, ◌≢◌, not, sym, refl, ◌∙◌, subst, inl, inr, ⊎_elim, arith}
 use Rattle.std.specs.Bool.{Decides}
 use Rattle.std.specs.List.{All}
 use Rattle.std.proofs.lemmas.Bool.{both_ways, eq-eqb, ne_eqb, and_parts, and_from, not-true, not-false, not_from_true, not_from_false}
@@ -9,7 +9,7 @@ use Rattle.task.specs.declared.edges.Edge.{Edge}
 use Rattle.task.specs.declared.edges.Side.{Side}
 use Rattle.task.specs.declared.edges.Side.TheVariants.{Tail, Head}
 use Rattle.task.specs.declared.faults.GraphFault.{GraphFault}
-use Rattle.task.specs.Lowest.{sole, first}
+use Rattle.task.specs.Lowest.{sole}
 use Rattle.task.specs.Ways.{Way}
 use Rattle.task.specs.Graph.{no_edge, tail_of, head_of, Node, Start, End, Path}
 use Rattle.task.specs.Sides.{end_at, end_of, node_count, touched, untouched, is_live, reaches}
@@ -62,16 +62,16 @@ module _ (es : List Edge) where
   on_path : (s e v : ℕ) → Decides (not (astray es s e v)) (OnPath es s e v)
   on_path s e v = (
     λ h.
-    let both = and_parts (reaches es [] Head s v) (reaches es [] Tail e v) (not-false _ (not-true _ h)) in
-    let back = reached_way es [] Head s v both.0 in
-    let comes = way_back (length es) (end_of es Head) (end_of es Tail) (is_live []) v s v back.0 [] back.1 refl in
-    let forth = reached_way es [] Tail e v both.1 in
-    record { before = comes.0; comes = forth_path [] comes.0 s v comes.1; after = forth.0; goes = forth_path [] forth.0 v e forth.1 },
+        let both = and_parts (reaches es [] Head s v) (reaches es [] Tail e v) (not-false _ (not-true _ h)) in
+        let back = reached_way es [] Head s v both.0 in
+        let comes = way_back (length es) (end_of es Head) (end_of es Tail) (is_live []) v s v back.0 [] back.1 refl in
+        let forth = reached_way es [] Tail e v both.1 in
+        record { before = comes.0; comes = forth_path [] comes.0 s v comes.1; after = forth.0; goes = forth_path [] forth.0 v e forth.1 },
     λ on.
-    let back = way_back (length es) (end_of es Tail) (end_of es Head) (is_live []) s v s on.before [] (path_forth [] on.before s v on.comes (λ k d low. refl)) refl in
-    let comes = way_reached es [] Head s v back.0 back.1 in
-    let goes = way_reached es [] Tail e v on.after (path_forth [] on.after v e on.goes (λ k d low. refl)) in
-    not_from_false _ (not_from_true _ (and_from (reaches es [] Head s v) (reaches es [] Tail e v) comes goes)),
+        let back = way_back (length es) (end_of es Tail) (end_of es Head) (is_live []) s v s on.before [] (path_forth [] on.before s v on.comes (λ k d low. refl)) refl in
+        let comes = way_reached es [] Head s v back.0 back.1 in
+        let goes = way_reached es [] Tail e v on.after (path_forth [] on.after v e on.goes (λ k d low. refl)) in
+        not_from_false _ (not_from_true _ (and_from (reaches es [] Head s v) (reaches es [] Tail e v) comes goes)),
   )
 
 -- ---- the answer
