@@ -1,8 +1,7 @@
 -- A run within the limit of each row is charged no more than the limits are.
-use Rattle.std.proofs.Common.{◌≡◌, ℕ, zero as none, suc, ◌+◌, ◌<◌, ◌≤◌, Bool, true, false, cond, T, eqb, List, [], ◌∷◌, map, length, get_or, ℤ, pos, negsuc, nat_abs, ◌+ℤ◌, ◌-ℤ◌, neg_ℤ, ◌≤ℤ◌, sym, refl, ap, ◌∙◌, subst, subst₂, arith}
-use Rattle.std.specs.Bool.{IsTrue}
+use Rattle.std.proofs.Common.{◌≡◌, ℕ, zero as none, suc, ◌+◌, ◌<◌, ◌≤◌, Bool, true, false, cond, eqb, List, [], ◌∷◌, map, length, get_or, ℤ, pos, negsuc, nat_abs, ◌+ℤ◌, ◌-ℤ◌, neg_ℤ, ◌≤ℤ◌, sym, refl, ap, ◌∙◌, subst, subst₂, arith}
+use Rattle.std.specs.Prelude.{IsTrue}
 use Rattle.std.specs.List.{All}
-use Rattle.std.proofs.lemmas.Float.{T_from_true}
 use Rattle.std.proofs.lemmas.Int.{ints}
 use Rattle.std.proofs.lemmas.List.Elements.{All-head, All-tail, All-map, All-weaker}
 use Rattle.price.specs.Laws.{Laws}
@@ -68,24 +67,24 @@ at_least_holds e m run h = omega (arith, ints, (places_turns e run).1)
 
 module _ {le : Pair → Pair → Bool} {unit : Pair} (laws : Laws le unit) where
   -- more of what (0, 0) is no dearer than is no cheaper
-  more_of : (m n : ℤ) (a : Pair) → T (le zero a) → m ≤ℤ n → T (le (times m a) (times n a))
+  more_of : (m n : ℤ) (a : Pair) → IsTrue (le zero a) → m ≤ℤ n → IsTrue (le (times m a) (times n a))
   more_of m n a h less =
       let d : ℕ = nat_abs (n -ℤ m) in
       let e : m +ℤ pos d ≡ n = omega (arith, ints) in
-      subst₂ (λ x y. T (le x y)) (⊕-zero (times m a)) (sym (+-times m (pos d) a) ∙ ap (λ x. times x a) e)
+      subst₂ (λ x y. IsTrue (le x y)) (⊕-zero (times m a)) (sym (+-times m (pos d) a) ∙ ap (λ x. times x a) e)
       (laws.add (times m a) (times m a) zero (times (pos d) a) (le_refl laws (times m a)) (zero_le_times laws d a h))
 
-  one_row : (relation : Relation) (sum limit : ℤ) (m : Pair) → T (sign_ok le relation m) → WithinLimit relation sum limit → T (le (times sum m) (times limit m))
+  one_row : (relation : Relation) (sum limit : ℤ) (m : Pair) → IsTrue (sign_ok le relation m) → WithinLimit relation sum limit → IsTrue (le (times sum m) (times limit m))
   one_row Below sum limit m t h = more_of sum limit m t h
   one_row AtMost sum limit m t h = more_of sum limit m t h
-  one_row Equal sum limit m t h = subst (λ z. T (le (times sum m) (times z m))) h (le_refl laws (times sum m))
+  one_row Equal sum limit m t h = subst (λ z. IsTrue (le (times sum m) (times z m))) h (le_refl laws (times sum m))
 
   pub all_rows : (run : List ℕ) (lines : List Line) (ms : List Pair) → ((i : ℕ) → i < length lines → IsTrue (sign_ok le (get_or lines i no_line).relation (get_or ms i zero))) → All (Holds run) lines →
-      T (le (charge (λ r. places r.of_edge run) lines ms) (charge (λ r. r.limit) lines ms))
+      IsTrue (le (charge (λ r. places r.of_edge run) lines ms) (charge (λ r. r.limit) lines ms))
   all_rows run [] ms signs h = le_refl laws zero
   all_rows run (r ∷ rs) [] signs h = le_refl laws zero
   all_rows run (r ∷ rs) (m ∷ ms) signs h =
       let sum : ℤ = places r.of_edge run in
       laws.add (times sum m) (times r.limit m) (charge (λ r. places r.of_edge run) rs ms) (charge (λ r. r.limit) rs ms)
-      (one_row r.relation sum r.limit m (T_from_true _ (signs none (omega arith))) (All-head (Holds run) r rs h))
+      (one_row r.relation sum r.limit m (signs none (omega arith)) (All-head (Holds run) r rs h))
       (all_rows run rs ms (λ i k. signs (suc i) (omega arith)) (All-tail (Holds run) r rs h))

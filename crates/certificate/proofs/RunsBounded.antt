@@ -1,9 +1,8 @@
 -- A tree whose leaves all pass bounds every run that keeps the rows.
-use Rattle.std.proofs.Common.{◌≡◌, ℕ, ◌<◌, ◌≤◌, Bool, true, T, List, [], ◌∷◌, ◌++◌, length, pos, nat_abs, sym, ◌∙◌, subst, subst₂, ⊎_elim, arith}
-use Rattle.std.specs.Bool.{IsTrue}
+use Rattle.std.proofs.Common.{◌≡◌, ℕ, ◌<◌, ◌≤◌, Bool, true, List, [], ◌∷◌, ◌++◌, length, pos, nat_abs, sym, ◌∙◌, subst, subst₂, ⊎_elim, arith}
+use Rattle.std.specs.Prelude.{IsTrue}
 use Rattle.std.specs.List.{All}
 use Rattle.std.proofs.lemmas.Bool.{cases_lt}
-use Rattle.std.proofs.lemmas.Float.{T_from_true}
 use Rattle.std.proofs.lemmas.Int.{ints}
 use Rattle.std.proofs.lemmas.List.Elements.{All-nil, All-cons, All-head, All-append, All-push}
 use Rattle.price.specs.Laws.{Laws, cheaper}
@@ -52,7 +51,7 @@ zero_scales edges (split e m a b) lines near! =
 module _ {le : Pair → Pair → Bool} {unit : Pair} (laws : Laws le unit) (task : Task) (sense : Sense) (c : Pair) where
   -- D times the price of a path is within the bound of a leaf whose rows it keeps
   within : (run : List ℕ) → Path task.edges task.start task.end run → (lines : List Line) (l : Leaf) → Passes le unit task sense c lines l → All (Holds run) lines →
-      T (le (times (pos l.scale) (prices_along sense task.edges run)) (bound task.start task.end lines l))
+      IsTrue (le (times (pos l.scale) (prices_along sense task.edges run)) (bound task.start task.end lines l))
   within run path lines l ok holds =
       let ends : Pair = potential l task.start ⊖ potential l task.end in
       let charged : Pair = charge (λ r. places r.of_edge run) lines l.multipliers in
@@ -70,8 +69,8 @@ module _ {le : Pair → Pair → Bool} {unit : Pair} (laws : Laws le unit) (task
     pub none_dearer : NoneDearer le task sense c
     none_dearer run k =
         let w = one_leaf run (λ x. Passes le unit task sense c x.0 x.1) t (case_lines task) ok (rows_hold task.edges task.rows run k) in
-        subst (λ p. T (le p c)) (sym (prices_by_places sense task.edges run))
-        (within_bound laws w.0.1.scale _ c (bound task.start task.end w.0.0 w.0.1) (within run (leads run k) w.0.0 w.0.1 w.1 w.2) (T_from_true _ w.1.under))
+        subst (λ p. IsTrue (le p c)) (sym (prices_by_places sense task.edges run))
+        (within_bound laws w.0.1.scale _ c (bound task.start task.end w.0.0 w.0.1) (within run (leads run k) w.0.0 w.0.1 w.1 w.2) w.1.under)
 
     -- with D = 0 a bound is no less than (0, 0) and cheaper
     pub no_run : InRange task (pos 0) t → NoRun task
@@ -82,5 +81,5 @@ module _ {le : Pair → Pair → Bool} {unit : Pair} (laws : Laws le unit) (task
         let bound_of : Pair = bound task.start task.end w.0.0 l in
         let nothing : (a : Pair) → times (pos l.scale) a ≡ zero = λ a. (λ i. times (pos (w.1.1 i)) a) ∙ no_times a in
         clash (le zero bound_of)
-        (subst (λ x. T (le x bound_of)) (nothing (prices_along sense task.edges run)) (within run (leads run k) w.0.0 l w.1.0 w.2))
-        (subst (λ x. T (cheaper le bound_of x)) (nothing (c ⊕ unit)) (T_from_true _ w.1.0.under))
+        (subst (λ x. IsTrue (le x bound_of)) (nothing (prices_along sense task.edges run)) (within run (leads run k) w.0.0 l w.1.0 w.2))
+        (subst (λ x. IsTrue (cheaper le bound_of x)) (nothing (c ⊕ unit)) w.1.0.under)

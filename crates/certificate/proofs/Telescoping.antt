@@ -1,6 +1,6 @@
 -- Along a path the potentials telescope: D times its price is within the difference of the two ends' potentials and what its places are charged.
-use Rattle.std.proofs.Common.{◌≡◌, ℕ, Bool, T, List, [], ◌∷◌, ℤ, pos, ◌+ℤ◌, sym, refl, ◌∙◌, subst₂, arith}
-use Rattle.std.proofs.lemmas.Float.{T_from_true}
+use Rattle.std.proofs.Common.{◌≡◌, ℕ, Bool, List, [], ◌∷◌, ℤ, pos, ◌+ℤ◌, sym, refl, ◌∙◌, subst₂, arith}
+use Rattle.std.specs.Prelude.{IsTrue}
 use Rattle.std.proofs.lemmas.Int.{ints}
 use Rattle.price.specs.Laws.{Laws}
 use Rattle.price.specs.Pairs.{Pair, zero, ◌⊕◌, ◌⊖◌, times}
@@ -43,10 +43,10 @@ module _ {le : Pair → Pair → Bool} {unit : Pair} (laws : Laws le unit) (task
   charged xs = charge (λ r. places r.of_edge xs) lines l.multipliers
 
   pub path_within : (xs : List ℕ) (u v : ℕ) → Path task.edges u v xs →
-      T (le (times (pos l.scale) (prices_along sense task.edges xs)) (potential l u ⊖ potential l v ⊕ charge (λ r. places r.of_edge xs) lines l.multipliers))
+      IsTrue (le (times (pos l.scale) (prices_along sense task.edges xs)) (potential l u ⊖ potential l v ⊕ charge (λ r. places r.of_edge xs) lines l.multipliers))
   unfolding charged
   path_within [] u v p =
-      subst₂ (λ a b. T (le a b)) (sym (times_zero (pos l.scale)))
+      subst₂ (λ a b. IsTrue (le a b)) (sym (times_zero (pos l.scale)))
       (sym ((λ i. potential l (p i) ⊖ potential l v ⊕ charge_zero lines l.multipliers i) ∙ stays (potential l v)))
       (le_refl laws zero)
   path_within (x ∷ xs) u v p =
@@ -54,7 +54,7 @@ module _ {le : Pair → Pair → Bool} {unit : Pair} (laws : Laws le unit) (task
       let d : ℤ = pos l.scale in
       let here : Pair = charge (λ r. r.of_edge x) lines l.multipliers in
       let rest : Pair = prices_along sense task.edges xs in
-      subst₂ (λ a b. T (le a b)) (sym (times-⊕ d (edge_price sense e) rest))
+      subst₂ (λ a b. IsTrue (le a b)) (sym (times-⊕ d (edge_price sense e) rest))
       (telescope (potential l e.tail) (potential l e.head) (potential l v) here (charged xs)
       ∙ (λ i. potential l (p.1 i) ⊖ potential l v ⊕ sym (charge_add (λ r. r.of_edge x) (λ r. places r.of_edge xs) lines l.multipliers) i))
-      (laws.add (times d (edge_price sense e)) (allowance lines l x e) (times d rest) (potential l e.head ⊖ potential l v ⊕ charged xs) (T_from_true _ (ok x p.0)) (path_within xs e.head v p.2))
+      (laws.add (times d (edge_price sense e)) (allowance lines l x e) (times d rest) (potential l e.head ⊖ potential l v ⊕ charged xs) (ok x p.0) (path_within xs e.head v p.2))

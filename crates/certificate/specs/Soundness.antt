@@ -1,5 +1,5 @@
 -- What an accepted tree proves about the runs of a task.
-use Rattle.std.specs.Prelude.{◌≡◌, ℕ, Bool, T, List, Ok}
+use Rattle.std.specs.Prelude.{◌≡◌, ℕ, Bool, List, Ok, IsTrue}
 use Rattle.price.specs.Pairs.{Pair}
 use Rattle.price.specs.declared.senses.Sense.{Sense}
 use Rattle.task.specs.Rows.{KeepsAll}
@@ -14,7 +14,7 @@ pub record Between (task : Task) : Type 0 where
 
 -- no run that keeps every row is dearer than c
 abbrev pub NoneDearer : (Pair → Pair → Bool) → Task → Sense → Pair → Type 0
-NoneDearer le task sense c = (run : List ℕ) → KeepsAll task.edges task.rows run → T (le (run_price sense task.edges run) c)
+NoneDearer le task sense c = (run : List ℕ) → KeepsAll task.edges task.rows run → IsTrue (le (run_price sense task.edges run) c)
 
 -- no run keeps every row
 abbrev pub NoRun : Task → Type 0

@@ -11,7 +11,7 @@ pub idle_told : (stage : ℕ) (text : List ℕ) → stage < 10 → text ≡ code
     text ++ (10 ∷ []) ≡ rendered (told (record { stage = stage; price = zero; steps = 0; left = 0 }))
 idle_told stage text h is = rw (is, decimal_digit stage h, decimal_digit 0 (omega arith))
 
-pub certified_told : (y z : ℤ) (steps left : ℕ) (word price more text : List ℕ) → word ≡ codes "ok 2" → price ≡ word ++ integers (y ∷ z ∷ []) →
-    more ≡ price ++ (32 ∷ decimal steps) → text ≡ more ++ (32 ∷ decimal left) →
-    text ++ (10 ∷ []) ≡ rendered (told (record { stage = 2; price = (y, z); steps = steps; left = left }))
-certified_told y z steps left word price more text w p m t = rw (t, m, p, w, decimal_digit 2 (omega arith)) (simp (append_assoc, append-nil))
+pub standing_told : (stage : ℕ) (y z : ℤ) (steps left : ℕ) (word price more text : List ℕ) → stage < 10 → word ≡ codes "ok " ++ ((48 + stage) ∷ []) →
+    price ≡ word ++ integers (y ∷ z ∷ []) → more ≡ price ++ (32 ∷ decimal steps) → text ≡ more ++ (32 ∷ decimal left) →
+    text ++ (10 ∷ []) ≡ rendered (told (record { stage = stage; price = (y, z); steps = steps; left = left }))
+standing_told stage y z steps left word price more text h w p m t = rw (t, m, p, w, decimal_digit stage h) (simp (append_assoc, append-nil))

@@ -1,7 +1,7 @@
 -- The history of calls behind a text of lines and its replies.
 use Rattle.std.specs.Prelude.{ℕ, List, [], ◌∷◌, ◌++◌}
 use Rattle.price.specs.Tariffs.{by_cycles, one_read}
-use Rattle.price.specs.declared.refusals.Refusal.TheVariants.{LineForm}
+use Rattle.judge.specs.declared.refusals.Refusal.TheVariants.{LineForm}
 use Rattle.history.specs.Answers.{Said, refused}
 use Rattle.history.specs.Calls.{Request}
 use Rattle.judge.specs.Cases.{Contents}

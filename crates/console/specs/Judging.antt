@@ -1,8 +1,8 @@
 -- What the lines of a text make of a case, and what they are answered.
 use Rattle.std.specs.Prelude.{◌≡◌, ℕ, cond, List, [], ◌∷◌, ◌++◌, length, drop, is_ok, Ok, Result}
 use Rattle.std.specs.declared.alloc.AllocError.{AllocError}
-use Rattle.price.specs.declared.refusals.Refusal.{Refusal}
-use Rattle.price.specs.declared.refusals.Refusal.TheVariants.{LineForm}
+use Rattle.judge.specs.declared.refusals.Refusal.{Refusal}
+use Rattle.judge.specs.declared.refusals.Refusal.TheVariants.{LineForm}
 use Rattle.price.specs.Tariffs.{by_cycles, one_read}
 use Rattle.history.specs.Answers.{Said, refused}
 use Rattle.history.specs.Calls.{Request}

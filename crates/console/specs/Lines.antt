@@ -1,15 +1,6 @@
 -- The lines of a text.
 use Rattle.std.specs.Prelude.{ℕ, cond, List, [], ◌∷◌, ◌++◌, ◌==◌}
 
--- the text up to its first line feed, and the text after it
-abbrev pub first_line : List ℕ → List ℕ
-first_line [] = []
-first_line (c ∷ cs) = cond (c == 10) [] (c ∷ first_line cs)
-
-abbrev pub after_line : List ℕ → List ℕ
-after_line [] = []
-after_line (c ∷ cs) = cond (c == 10) cs (after_line cs)
-
 -- the lines of a text that goes on after the bytes of a line; a last line without a feed counts if it has any byte
 abbrev pub lines_on : List ℕ → List ℕ → List (List ℕ)
 lines_on [] [] = []

@@ -1,6 +1,6 @@
 -- The line that tells an answer.
 use Rattle.std.specs.Prelude.{ℕ, List, [], ◌∷◌, ◌++◌, ℤ, pos, codes}
-use Rattle.price.specs.Refusals.{refusal_numbers}
+use Rattle.judge.specs.Refusals.{refusal_numbers}
 use Rattle.history.specs.Answers.{Said, number, ends, price, next, done, agreed, told, refused}
 use Rattle.grammar.specs.Spelling.{integers}
 

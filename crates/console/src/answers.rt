@@ -10,8 +10,8 @@ ghost use Rattle.std.specs.Fmt.{signed_decimal};
 use arrayvec::ArrayString;
 use history::Answer;
 use itoa::{Buffer, Integer};
-use judge::Report;
-use price::{Price, Refusal};
+use judge::{Proof, Refusal, Report};
+use price::{Price, Sense};
 
 /// No reply is longer.
 pub(crate) const MAX_REPLY: usize = 64;
@@ -62,8 +62,8 @@ impl Reply {
         self.part(price.cycles()).part(price.reads())
     }
 
-    // The stage of a case, its price and its counts; only a certified case has any. The feed is yet to come.
-    #[tactic(auto, using(crate::proofs::ReportReplies::idle_told, crate::proofs::ReportReplies::certified_told))]
+    // The stage of a case, its price and its counts; only a claim that stands has any. The feed is yet to come.
+    #[tactic(auto, using(crate::proofs::ReportReplies::idle_told, crate::proofs::ReportReplies::standing_told))]
     fn told(report: Report) -> Reply
         ensures text { result.text.bytes ++ (10 ∷ []) ≡ rendered (told (shown report)) }
         ensures short { length result.text.bytes ≤ 63 }
@@ -71,7 +71,13 @@ impl Reply {
         match report {
             Report::Draft => Reply::word("ok 0 0 0 0 0"),
             Report::Sealed => Reply::word("ok 1 0 0 0 0"),
-            Report::Certified { price, steps, left } => Reply::word("ok 2")
+            Report::Standing {
+                sense: Sense::Longest,
+                proof: Proof::Certified,
+                price,
+                steps,
+                left,
+            } => Reply::word("ok 2")
                 .price(price)
                 .number(steps)
                 .number(left),

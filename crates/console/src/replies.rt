@@ -7,8 +7,8 @@ ghost use Rattle.history.specs.Answers.{said};
 use crate::answers::{MAX_REPLY, Reply};
 use grammar::{Tables, read};
 use history::{Answer, perform};
-use judge::Case;
-use price::{CyclesFirst, Refusal};
+use judge::{Case, Refusal};
+use price::CyclesFirst;
 
 // Has the case do what the line asks.
 pub(crate) fn judge_line(

@@ -77,8 +77,8 @@ by_word_sound line =
 
 -- each spelling of a request is read as the request
 by_word_complete : (q : Request) (line : List ℕ) → Within q → Spelling q line → by_word line ≡ Some q
-by_word_complete (edge a b c d e) line small is =
-    let ns = a ∷ b ∷ c ∷ d ∷ e ∷ [] in
+by_word_complete (edge new) line small is =
+    let ns = new.tail ∷ new.head ∷ new.block ∷ new.cycles ∷ new.reads ∷ [] in
     ap by_word is ∙ ap edge_in (sym (append-nil (naturals ns))) ∙ ap (option_and_then edge_of) (naturals_complete ns [] small tt)
 by_word_complete (row relation k zs) line small is = rw (is, integers_complete 512 (relation ∷ k ∷ zs) small.0 (omega (arith, small.1)))
 by_word_complete (claim turns tree) line small is =

@@ -2,6 +2,7 @@
 use Rattle.std.specs.Prelude.{ℕ, zero, suc, ◌-◌, cond, List, [], ◌∷◌, length, ℤ, Some, None, codes, Option, ◌==◌, nat_le, slice_index}
 use Rattle.std.specs.Option.{option_and_then, option_map, option_map_or}
 use Rattle.grammar.specs.Numbers.{after, natural_after, integer_after}
+use Rattle.task.specs.declared.edges.NewEdge.{NewEdge}
 use Rattle.history.specs.Calls.{Request, edge, row, seal, claim, void, step, withdraw, told}
 
 -- just so many numbers, and the text after them
@@ -17,9 +18,11 @@ integers_in (suc room) (c ∷ cs) = option_and_then (λ p. option_map (λ zs. p.
 
 -- ---- the numbers after each command word
 
+abbrev numbered : List ℕ → NewEdge
+numbered ns = record { tail = slice_index ns 0; head = slice_index ns 1; block = slice_index ns 2; cycles = slice_index ns 3; reads = slice_index ns 4 }
+
 abbrev pub edge_of : List ℕ × List ℕ → Option Request
-edge_of p =
-    cond (length p.1 == 0) (Some (edge (slice_index p.0 0) (slice_index p.0 1) (slice_index p.0 2) (slice_index p.0 3) (slice_index p.0 4))) None
+edge_of p = cond (length p.1 == 0) (Some (edge (numbered p.0))) None
 
 abbrev pub edge_in : List ℕ → Option Request
 edge_in text = option_and_then edge_of (naturals_front 5 text)

@@ -15,7 +15,7 @@ integers (z ∷ zs) = 32 ∷ (signed_decimal z ++ integers zs)
 
 -- The texts that spell a request. A request may have several: its line here then says each of them, joined by ⊎.
 abbrev pub Spelling : Request → List ℕ → Type 0
-Spelling (edge tail head block cycles reads) text = text ≡ codes "edge" ++ naturals (tail ∷ head ∷ block ∷ cycles ∷ reads ∷ [])
+Spelling (edge new) text = text ≡ codes "edge" ++ naturals (new.tail ∷ new.head ∷ new.block ∷ new.cycles ∷ new.reads ∷ [])
 Spelling (row relation k coefficients) text = text ≡ codes "row" ++ integers (relation ∷ k ∷ coefficients)
 Spelling seal text = text ≡ codes "seal"
 Spelling (claim turns tree) text = text ≡ codes "claim" ++ (naturals (length turns ∷ turns) ++ integers tree)
@@ -33,7 +33,7 @@ Integer z = (neg_ℤ (pos 2147483648) ≤ℤ z) × (z <ℤ pos 2147483648)
 
 -- each number has 32 bits, and there are at most 512 of them, the count of turns among them
 abbrev pub Within : Request → Type 0
-Within (edge tail head block cycles reads) = All Natural (tail ∷ head ∷ block ∷ cycles ∷ reads ∷ [])
+Within (edge new) = All Natural (new.tail ∷ new.head ∷ new.block ∷ new.cycles ∷ new.reads ∷ [])
 Within (row relation k coefficients) = All Integer (relation ∷ k ∷ coefficients) × (2 + length coefficients ≤ 512)
 Within (claim turns tree) = All Natural turns × All Integer tree × (1 + length turns + length tree ≤ 512)
 Within (void tree) = All Integer tree × (length tree ≤ 512)

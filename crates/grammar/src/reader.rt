@@ -10,6 +10,7 @@ use crate::list::{MAX_NUMBERS, integers, naturals};
 use crate::number::{after, natural};
 use arrayvec::ArrayVec;
 use history::Call;
+use task::NewEdge;
 
 // A line is shorter than 4096 bytes.
 const MAX_LENGTH: usize = 4095;
@@ -44,13 +45,13 @@ fn edge<'a>(text: &[u8]) -> Option<Call<'a>>
     let mut numbers = [0; 5];
     let rest = naturals(text, &mut numbers)?;
     let [tail, head, block, cycles, reads] = numbers;
-    rest.is_empty().then_some(Call::Edge {
+    rest.is_empty().then_some(Call::Edge(NewEdge {
         tail,
         head,
         block,
         cycles,
         reads,
-    })
+    }))
 }
 
 // A row has a relation, k and its coefficients.

@@ -1,5 +1,5 @@
 -- The rules refute hollow answers.
-use Rattle.std.proofs.Common.{◌≡◌, ℕ, zero, suc, ◌+◌, ◌<◌, Bool, false, T, List, [], ◌∷◌, ◌++◌, map, get_or, ℤ, sym, refl, ap, ◌∙◌, subst, inl, inr, ◌≢◌, arith}
+use Rattle.std.proofs.Common.{◌≡◌, ℕ, zero, suc, ◌+◌, ◌<◌, Bool, List, [], ◌∷◌, ◌++◌, map, get_or, ℤ, sym, refl, ap, ◌∙◌, subst, inl, inr, ◌≢◌, arith}
 use lib.Signed.{le_z_yes}
 use Rattle.std.proofs.lemmas.List.Elements.{All-nil, All-cons, All-map}
 use Rattle.judge.specs.declared.stages.Proof.TheVariants.{Certified}
@@ -95,7 +95,7 @@ module _ (le : Pair → Pair → Bool) (tree : List ℤ) (p : Pair) where
     withdrawn = λ state two rules. let past = with_call (now tree p) withdraw agreed in
         none_left claimed_by (λ x. refl) refl (now tree p) (withdraw gives agreed) refl (((rules.told_tells past state ([], refl)).stands Longest Certified).0 two).0;
     hidden = λ state other rules. other (((rules.told_tells (now tree p) state ([], refl)).stands Longest Certified).1 (it_stands tree p, refl, refl));
-    too_cheap = λ dearer rules. let z : T false = subst T dearer ((rules.best (now tree p) ([], refl) (it_stands tree p) refl).none_better the_run it_keeps) in z;
+    too_cheap = λ dearer rules. cc ((rules.best (now tree p) ([], refl) (it_stands tree p) refl).none_better the_run it_keeps);
     made_up_price = λ other rules. let out = rules.hands_out (now tree p) ([], refl) (it_stands tree p) in other (sym out.price ∙ ap (price_of Longest graph) out.exact);
     untold_price = λ state other rules. other ((rules.told_tells (now tree p) state ([], refl)).price (it_stands tree p));
     stuck = λ refusal rules. cc (rules.step_accepts (now tree p) _ ([], refl) (it_stands tree p));

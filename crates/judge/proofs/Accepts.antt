@@ -23,7 +23,7 @@ use Rattle.certificate.specs.Soundness.{NoneDearer}
 use Rattle.certificate.specs.Tasks.{Answer}
 use Rattle.certificate.specs.Verdicts as verdicts
 use Rattle.certificate.proofs.Meanings.{judged}
-use Rattle.certificate.proofs.Proves.{price_sound, void_sound}
+use Rattle.certificate.proofs.AcceptedProves.{price_sound, void_sound}
 use Rattle.walk.specs.Rule.{next}
 use Rattle.walk.specs.Walks.{walk}
 use Rattle.walk.proofs.WalkStands.{walk_stands}

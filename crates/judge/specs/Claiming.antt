@@ -1,5 +1,5 @@
 -- The calls that judge: the questions of each in order, what it leaves, and what an accepted one says.
-use Rattle.std.specs.Prelude.{◌≡◌, ℕ, Bool, T, List, ℤ, Ok, Err, sum, Result}
+use Rattle.std.specs.Prelude.{◌≡◌, ℕ, Bool, List, ℤ, Ok, Err, sum, Result, IsTrue}
 use Rattle.certificate.specs.Soundness.{NoRun}
 use Rattle.certificate.specs.Tasks.{Task}
 use Rattle.certificate.specs.Verdicts as verdicts
@@ -29,7 +29,7 @@ pub record Best (sense : Sense) (no_better : Pair → Pair → Bool) (es : List 
   pub run : List ℕ
   pub keeps : KeepsAll es rows run
   pub price : run_price sense es run ≡ p
-  pub none_better : (other : List ℕ) → KeepsAll es rows other → T (no_better (run_price sense es other) p)
+  pub none_better : (other : List ℕ) → KeepsAll es rows other → IsTrue (no_better (run_price sense es other) p)
 
 -- an accepted claim: sound turns between the two ends, and their price, which is the best; a run of that price has just these turns
 pub record Accepted (sense : Sense) (no_better : Pair → Pair → Bool) (es : List Edge) (rows : List Row) (ts : List ℕ) (c : Pair) : Type 0 where
