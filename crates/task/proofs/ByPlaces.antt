@@ -1,5 +1,5 @@
 -- The turns of a block, the sum of a row and the price of a run: edge by edge, and place by place.
-use Rattle.std.proofs.Common.{◌≡◌, ℕ, zero, suc, cond, ◌*ℤ◌, get_or, ◌+◌, ◌<◌, ◌≤◌, min, Bool, cond, eqb, List, [], ◌∷◌, length, get_or, drop, ℤ, pos, ◌+ℤ◌, refl, sym, ◌∙◌, ap, arith}
+use Rattle.std.proofs.Common.{◌≡◌, ℕ, zero, suc, cond, ◌*ℤ◌, get_or, ◌+◌, ◌<◌, Bool, cond, eqb, List, [], ◌∷◌, length, get_or, ℤ, pos, ◌+ℤ◌, refl, ◌∙◌, ap, arith}
 use Rattle.std.proofs.lemmas.Int.{ints}
 use Rattle.std.proofs.lemmas.Bool.Decides.{nat_tests}
 use Rattle.std.proofs.lemmas.List.Elements.{All-nil, All-cons, All-weaker}
@@ -15,7 +15,7 @@ use Rattle.task.specs.Lowest.{one_if}
 use Rattle.task.specs.Turns.{turns_in, turns_by, block_turns, edge_price, price_of, run_price}
 use Rattle.task.specs.Rows.{Row, coefficient, weigh, row_sum}
 use Rattle.task.specs.Places.{Exist, coefficients_along, prices_along, places_of}
-use Rattle.task.proofs.EdgeSums.{weighed, weighed_next, weighed_done, along, Counts, by_places}
+use Rattle.task.proofs.EdgeSums.{weighed, along, Counts, by_places}
 
 -- ---- the edges of a run exist
 

@@ -80,9 +80,9 @@ module _ (n : ℕ) (from to : ℕ → ℕ) (live : ℕ → Bool) (goal : ℕ) wh
   simple (x ∷ xs) v w =
       let rest = simple xs (to x) w.3 in
       ⊎_elim
-        (λ again. rw w.1 at ((from_link x rest.links (to x) rest.way rest.once again).1))
-        (λ new. record { links = x ∷ rest.links; way = (w.0, w.1, w.2, rest.way); once = IsDistinct-cons eqb x rest.links (apart x rest.links new) rest.once })
-        (cases_Bool (list_any (eqb x) rest.links))
+      (λ again. rw w.1 at ((from_link x rest.links (to x) rest.way rest.once again).1))
+      (λ new. record { links = x ∷ rest.links; way = (w.0, w.1, w.2, rest.way); once = IsDistinct-cons eqb x rest.links (apart x rest.links new) rest.once })
+      (cases_Bool (list_any (eqb x) rest.links))
 
   -- ---- both ways
 

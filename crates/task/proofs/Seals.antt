@@ -62,16 +62,16 @@ module _ (es : List Edge) where
   on_path : (s e v : ℕ) → Decides (not (astray es s e v)) (OnPath es s e v)
   on_path s e v = (
     λ h.
-    let both = and_parts (reaches es [] Head s v) (reaches es [] Tail e v) (not-false _ (not-true _ h)) in
-    let back = reached_way es [] Head s v both.0 in
-    let comes = way_back (length es) (end_of es Head) (end_of es Tail) (is_live []) v s v back.0 [] back.1 refl in
-    let forth = reached_way es [] Tail e v both.1 in
-    record { before = comes.0; comes = forth_path [] comes.0 s v comes.1; after = forth.0; goes = forth_path [] forth.0 v e forth.1 },
+        let both = and_parts (reaches es [] Head s v) (reaches es [] Tail e v) (not-false _ (not-true _ h)) in
+        let back = reached_way es [] Head s v both.0 in
+        let comes = way_back (length es) (end_of es Head) (end_of es Tail) (is_live []) v s v back.0 [] back.1 refl in
+        let forth = reached_way es [] Tail e v both.1 in
+        record { before = comes.0; comes = forth_path [] comes.0 s v comes.1; after = forth.0; goes = forth_path [] forth.0 v e forth.1 },
     λ on.
-    let back = way_back (length es) (end_of es Tail) (end_of es Head) (is_live []) s v s on.before [] (path_forth [] on.before s v on.comes (λ k d low. refl)) refl in
-    let comes = way_reached es [] Head s v back.0 back.1 in
-    let goes = way_reached es [] Tail e v on.after (path_forth [] on.after v e on.goes (λ k d low. refl)) in
-    not_from_false _ (not_from_true _ (and_from (reaches es [] Head s v) (reaches es [] Tail e v) comes goes)),
+        let back = way_back (length es) (end_of es Tail) (end_of es Head) (is_live []) s v s on.before [] (path_forth [] on.before s v on.comes (λ k d low. refl)) refl in
+        let comes = way_reached es [] Head s v back.0 back.1 in
+        let goes = way_reached es [] Tail e v on.after (path_forth [] on.after v e on.goes (λ k d low. refl)) in
+        not_from_false _ (not_from_true _ (and_from (reaches es [] Head s v) (reaches es [] Tail e v) comes goes)),
   )
 
 -- ---- the answer
