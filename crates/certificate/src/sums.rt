@@ -1,12 +1,12 @@
 // What the rows of a leaf charge: an entry of each times its multiplier, added up.
 // Entries are within 2^20 + 1, multipliers within 2^26: each clause says so of its own parts, since a product's bound is its contract.
-ghost use Rattle.std.specs.Prelude.{◌≡◌, ◌+◌, ◌*◌, ◌^◌, ◌<◌, length, pos, ◌*ℤ◌, slice_index_or};
+ghost use Rattle.std.specs.Prelude.{◌≡◌, ℕ, ◌+◌, ◌*◌, ◌^◌, ◌<◌, length, pos, ◌+ℤ◌, ◌*ℤ◌, slice_index_or};
 ghost use Rattle.certificate.specs.Columns.{charged, entries, row_entry, branch_entry};
 ghost use Rattle.certificate.specs.Held.{leaf_held};
 ghost use Rattle.certificate.specs.Lines.{multiplier, pairs, potential};
 ghost use Rattle.certificate.specs.Ready.{Small};
 ghost use Rattle.certificate.specs.Splits.{branch_of};
-ghost use Rattle.price.specs.Pairs.{times, zero};
+ghost use Rattle.price.specs.Pairs.{◌⊕◌, times, zero};
 ghost use Rattle.price.specs.Ranges.{Both, Within};
 
 use crate::branches::Branch;
@@ -71,13 +71,24 @@ fn product(entry: i64, part: i64) -> i64
     entry * part
 }
 
-// An entry times its multiplier.
-fn charge_of(entry: i64, multiplier: (i64, i64)) -> (i64, i64)
-    requires { (Within 1048577 entry) × (Both 67108864 multiplier) }
-    ensures value { result ≡ times entry multiplier }
-    ensures small { Both 70368811286528 result }
+// A part of a sum, and an entry times a part of its multiplier more.
+fn part_more(sum: i64, entry: i64, part: i64) -> i64
+    requires { (Within (70368811286528 * 35) sum) × (Within 1048577 entry) × (Within 67108864 part) }
+    ensures value { result ≡ sum +ℤ entry *ℤ part }
+    ensures small { (n : ℕ) → Within (70368811286528 * n) sum → Within (70368811286528 * (n + 1)) result }
 {
-    (product(entry, multiplier.0), product(entry, multiplier.1))
+    sum + product(entry, part)
+}
+
+// A sum, and an entry times its multiplier more.
+fn charge_more(sum: (i64, i64), entry: i64, multiplier: (i64, i64)) -> (i64, i64)
+    requires { (Both (70368811286528 * 35) sum) × (Within 1048577 entry) × (Both 67108864 multiplier) }
+    ensures value { result ≡ sum ⊕ times entry multiplier }
+    ensures small { (n : ℕ) → Both (70368811286528 * n) sum → Both (70368811286528 * (n + 1)) result }
+{
+    let cycles = part_more(sum.0, entry, multiplier.0);
+    let reads = part_more(sum.1, entry, multiplier.1);
+    (cycles, reads)
 }
 
 impl Leaf<'_> {
@@ -108,14 +119,11 @@ impl Leaf<'_> {
         ensures value { result ≡ charged (entries column self.now.claim.task.now.rows.now self.now.path.now) (leaf_held self.now).multipliers (length self.now.claim.task.now.rows.now) }
         ensures small { Both (70368811286528 * length self.now.claim.task.now.rows.now) result }
     {
-        let mut cycles: i64 = 0;
-        let mut reads: i64 = 0;
+        let mut sum: (i64, i64) = (0, 0);
         for (i, row) in self.claim.task.rows.iter().enumerate() {
-            let charge = charge_of(row_entry(row, column), self.multiplier(i));
-            cycles += charge.0;
-            reads += charge.1;
+            sum = charge_more(sum, row_entry(row, column), self.multiplier(i));
         }
-        (cycles, reads)
+        sum
     }
 
     // What all rows charge in a column: those of the path follow those of the task.
@@ -124,12 +132,10 @@ impl Leaf<'_> {
         ensures small { Both (70368811286528 * 36) result }
     {
         let rows = self.claim.task.rows.len();
-        let (mut cycles, mut reads) = self.charge_of_task(column);
+        let mut sum = self.charge_of_task(column);
         for (i, branch) in self.path.iter().enumerate() {
-            let charge = charge_of(branch.entry(column), self.multiplier(rows + i));
-            cycles += charge.0;
-            reads += charge.1;
+            sum = charge_more(sum, branch.entry(column), self.multiplier(rows + i));
         }
-        (cycles, reads)
+        sum
     }
 }

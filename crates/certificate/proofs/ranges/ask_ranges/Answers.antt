@@ -13,14 +13,6 @@ loop-record-init c t s =
     let start = c.new-records.ensures in
     (records t, (start.ahead t s, record { same = λ i. range_answer (sym start.first.2 i) (sym (tests_tree c.args.limits.edges c.args.limits.top t) i) }))
 
-pub place-requires : goal.place-requires
-place-requires c = let w = c.loop-record.invariant c.requires.1.0 c.requires.1.1 in (w.0, w.1.0)
-
-pub ask_record-requires : goal.ask_record-requires
-ask_record-requires c =
-    let w = in_front (c.loop-record.invariant c.requires.1.0 c.requires.1.1) c.in-Some.ensures in
-    omega (arith, w.1.counted, simp length-append at (ap length w.1.is), c.loop-record.records.short, c.place.ensures)
-
 pub returns-in_err-ask_record : goal.returns-in_err-ask_record
 returns-in_err-ask_record c t s =
     let w = in_front (c.loop-record.invariant t s) c.in-Some.ensures in
@@ -38,6 +30,3 @@ loop-record-preserved c t s =
     let next = c.pass.ensures.ahead w.0 w.1 w.3 in
     let rest = (first_asked w.2 c.place.ensures).passed c.in_ok-ask_record.ensures in
     (w.0, (next.0, record { same = rw (next.1) rest }))
-
-pub returns : goal.returns
-returns c t s = sym ((none_in_front (c.loop-record.invariant t s) c.in_default.ensures).same)

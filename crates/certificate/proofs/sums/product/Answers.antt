@@ -3,13 +3,6 @@ use Rattle.std.proofs.lemmas.Int.{ints, to_z-of_z}
 use Rattle.certificate.proofs.Products.{product_within}
 use Rattle.certificate.proofs.sums.product.Goals as goal
 
-pub overflow_mul-result : goal.overflow_mul-result
-overflow_mul-result c =
-    let s = product_within c.args.entry c.args.part 1048577 67108864 c.requires.0 c.requires.1 in
-    let a = c.ranges.entry in
-    let b = c.ranges.part in
-    simp to_z-of_z (omega (arith, ints, s))
-
 pub returns : goal.returns
 returns c =
     let s = product_within c.args.entry c.args.part 1048577 67108864 c.requires.0 c.requires.1 in

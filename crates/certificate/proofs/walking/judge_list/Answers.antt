@@ -23,12 +23,6 @@ judge_record-requires g c =
     let w = in_front (c.loop-record.invariant j.0 j.1 j.2) c.in-Some.ensures in
     All-head Bounded _ w.0 w.2.bounded
 
-pub returns-in_err-judge_record : goal.returns-in_err-judge_record
-returns-in_err-judge_record g c t s b =
-    let w = in_front (c.loop-record.invariant t s b) c.in-Some.ensures in
-    let p = err_from_is_err_and c.from_residual.result c.from_residual.ensures.1 in
-    p.1 ∙ ap Err p.2 ∙ (first_judged w.2 c.path.ensures c.leaves.ensures).refused c.in_err-judge_record.ensures
-
 pub pass-requires : goal.pass-requires
 pass-requires g c =
     let j = c.requires.1 in
@@ -40,6 +34,3 @@ loop-record-preserved g c t s b =
     let w = in_front (c.loop-record.invariant t s b) c.in-Some.ensures in
     let rest = (first_judged w.2 c.path.ensures c.leaves.ensures).passed c.in_ok-judge_record.ensures in
     (w.0, ((c.pass.ensures.ahead w.0 w.1 w.3).0, record { bounded = All-tail Bounded _ w.0 w.2.bounded; same = rw (c.pass.ensures.path, c.pass.ensures.leaves) rest }))
-
-pub returns : goal.returns
-returns g c t s b = sym ((none_in_front (c.loop-record.invariant t s b) c.in_default.ensures).same)

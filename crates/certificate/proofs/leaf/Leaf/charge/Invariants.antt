@@ -8,5 +8,5 @@ use Rattle.certificate.proofs.leaf.Leaf.charge.Given as goal
 
 abbrev pub invariant-loop-i : goal.invariant-loop-i
 invariant-loop-i l =
-    (◌≡◌ {A = Pair} (l.cycles, l.reads) (charged (entries l.column l.self.claim.task.now.rows.now l.self.path.now) (leaf_held l.self).multipliers (length l.self.claim.task.now.rows.now + l.i)))
-    × Both (70368811286528 * (length l.self.claim.task.now.rows.now + l.i)) (l.cycles, l.reads)
+    (◌≡◌ {A = Pair} l.sum (charged (entries l.column l.self.claim.task.now.rows.now l.self.path.now) (leaf_held l.self).multipliers (length l.self.claim.task.now.rows.now + l.i)))
+    × Both (70368811286528 * (length l.self.claim.task.now.rows.now + l.i)) l.sum

@@ -1,6 +1,5 @@
-use Rattle.std.proofs.Common.{◌+ℤ◌, ◌≤◌, length, sym, ap, ◌∙◌, arith, w64, SFits}
-use Rattle.std.proofs.lemmas.Int.{ints, to_z-of_z}
-use Rattle.price.specs.Pairs.{◌⊕◌}
+use Rattle.std.proofs.Common.{sym, ap, ◌∙◌, w64, SFits, arith, rules}
+use Rattle.std.proofs.lemmas.Int.{to_z-of_z}
 use Rattle.certificate.specs.Columns.{entries, row_entry}
 use Rattle.certificate.specs.Held.{leaf_held}
 use Rattle.certificate.proofs.Entries.{entry_of_row, charged_more}
@@ -10,18 +9,9 @@ pub loop-i-preserved : goal.loop-i-preserved
 loop-i-preserved c =
     let rows = c.args.self.now.claim.task.now.rows.now in
     let path = c.args.self.now.path.now in
-    let few : length rows ≤ 24 = c.args.self.now.claim.few in
-    let was = simp (c.loop-i.cycles-is, c.loop-i.reads-is) at c.loop-i.invariant in
-    let each = c.charge_of-charge.ensures.small in
-    let f : SFits w64 c.charge_of-charge.result.0 = omega (arith, ints, each) in
-    let g : SFits w64 c.charge_of-charge.result.1 = omega (arith, ints, each) in
-    let s : SFits w64 (c.loop-i.cycles +ℤ c.charge_of-charge.result.0) = omega (arith, ints, was.1, each, few) in
-    let t : SFits w64 (c.loop-i.reads +ℤ c.charge_of-charge.result.1) = omega (arith, ints, was.1, each, few) in
-    let e : SFits w64 c.row_entry.result = omega (arith, ints, c.row_entry.ensures.small) in
-    let charge = simp to_z-of_z at c.charge_of-charge.ensures.value in
-    let more = charged_more (entries c.args.column rows path) (leaf_held c.args.self.now).multipliers c.loop-i.i (c.loop-i.cycles, c.loop-i.reads) c.multiplier.result c.row_entry.result was.0
-    (c.row_entry.ensures.value ∙ ap (row_entry c.args.column) c.row-item.is ∙ sym (entry_of_row c.args.column rows path c.loop-i.i c.row-item.result (omega arith))) c.multiplier.ensures.value in
-    simp (c.loop-i.cycles-is, c.loop-i.reads-is, to_z-of_z) (
-      (λ i. (c.loop-i.cycles, c.loop-i.reads) ⊕ charge i) ∙ more,
-      ((omega (arith, ints, was.1, each), omega (arith, ints, was.1, each)), (omega (arith, ints, was.1, each), omega (arith, ints, was.1, each))),
+    let e : SFits w64 c.row_entry.result = search rules in
+    let more = simp to_z-of_z at c.charge_more-sum.ensures.value in
+    let entry = c.row_entry.ensures.value ∙ ap (row_entry c.args.column) c.row-item.is ∙ sym (entry_of_row c.args.column rows path c.loop-i.i c.row-item.result (omega arith)) in (
+      more ∙ charged_more (entries c.args.column rows path) (leaf_held c.args.self.now).multipliers c.loop-i.i c.loop-i.sum c.multiplier.result c.row_entry.result c.loop-i.invariant.0 entry c.multiplier.ensures.value,
+      c.charge_more-sum.ensures.small c.loop-i.i c.loop-i.invariant.1,
     )
