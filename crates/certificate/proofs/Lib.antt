@@ -5,7 +5,6 @@ pub mod PathSteps
 pub mod Charges
 pub mod Levels
 pub mod Signs
-pub mod Far
 pub mod Steps
 pub mod Firsts
 pub mod Spellings

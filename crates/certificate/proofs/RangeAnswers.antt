@@ -1,16 +1,39 @@
 -- The first number out of range: of a leaf, and of records one after another.
-use Rattle.std.proofs.Common.{◌≡◌, ℕ, ◌+◌, Bool, true, List, ◌∷◌, ◌++◌, length, ℤ, sym, ap, ◌∙◌, arith, length-append}
+use Rattle.std.proofs.Common.{◌≡◌, ℕ, ◌+◌, Bool, true, false, cond, not, List, [], ◌∷◌, ◌++◌, length, position, ℤ, Some, None, Ok, Err, Option, sym, ap, ◌∙◌, refl, arith, length-append}
 use Rattle.std.specs.List.{flat_map}
 use Rattle.std.proofs.lemmas.List.{length-map}
+use Rattle.std.specs.List.{position_from}
+use Rattle.std.proofs.lemmas.Iterator.Adapters.{position_from-zero}
+use Rattle.price.specs.Questions.{ask}
 use Rattle.task.specs.Coefficients.{in_range}
 use Rattle.certificate.specs.declared.faults.TreeFault.TheVariants.{Range}
 use Rattle.certificate.specs.declared.records.Records.{Records}
 use Rattle.certificate.specs.Ahead.{numbers, place_of}
-use Rattle.certificate.specs.RangeTests.{near, record_tests}
+use Rattle.certificate.specs.RangeTests.{near, far, record_tests}
 use Rattle.certificate.specs.Tasks.{Answer}
 use Rattle.certificate.specs.Trees.{TreeRecord, leaf_record, split_record}
 use Rattle.certificate.specs.Verdicts.{before, range_answer}
 use Rattle.certificate.proofs.Firsts.{first_append, FirstOf, first_of}
+
+-- ---- a list of potentials or of multipliers
+
+abbrev pub refused : ℕ → Option ℕ → Answer
+refused place None = Ok tt
+refused place (Some i) = Err (Range (place + i))
+
+range_from : (place n : ℕ) (xs : List ℤ) → range_answer (place + n) (near xs) ≡ refused place (position_from far n xs)
+range_from place n [] = refl
+range_from place n (x ∷ xs) =
+    let e : place + n + 1 ≡ place + (n + 1) = omega arith in
+    let rest = ap (λ (k : ℕ). range_answer k (near xs)) e ∙ range_from place (n + 1) xs in
+    elim (in_range 67108864 x) as (λ b. ask b (Range (place + n)) (range_answer (place + n + 1) (near xs)) ≡ refused place (cond (not b) (Some n) (position_from far (n + 1) xs))) [ true ↦ rest | false ↦ refl ]
+
+pub range_first : (place : ℕ) (xs : List ℤ) → range_answer place (near xs) ≡ refused place (position far xs)
+range_first place xs =
+    let e : place ≡ place + 0 = omega arith in
+    ap (λ (k : ℕ). range_answer k (near xs)) e ∙ range_from place 0 xs ∙ ap (refused place) (sym (position_from-zero far xs))
+
+-- ---- records
 
 near_long : (xs : List ℤ) → length (near xs) ≡ length xs
 near_long xs = length-map xs (in_range 67108864)

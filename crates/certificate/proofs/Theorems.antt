@@ -1,11 +1,10 @@
 -- A tree whose leaves all pass bounds every run that keeps the rows.
-use Rattle.std.proofs.Common.{◌≡◌, ℕ, ◌+◌, ◌<◌, ◌≤◌, Bool, true, T, List, [], ◌∷◌, ◌++◌, length, pos, nat_abs, sym, ◌∙◌, subst, subst₂, ⊎_elim, arith, length-append}
+use Rattle.std.proofs.Common.{◌≡◌, ℕ, ◌<◌, ◌≤◌, Bool, true, T, List, [], ◌∷◌, ◌++◌, length, pos, nat_abs, sym, ◌∙◌, subst, subst₂, ⊎_elim, arith}
 use Rattle.std.specs.Bool.{IsTrue}
 use Rattle.std.specs.List.{All}
 use Rattle.std.proofs.lemmas.Bool.{cases_lt}
 use Rattle.std.proofs.lemmas.Float.{T_from_true}
 use Rattle.std.proofs.lemmas.Int.{ints}
-use Rattle.std.proofs.lemmas.List.{get_or_append_left, get_or-append-add}
 use Rattle.std.proofs.lemmas.List.Elements.{All-nil, All-cons, All-head, All-append, All-push}
 use Rattle.price.specs.Laws.{Laws, cheaper}
 use Rattle.price.specs.Pairs.{Pair, zero, ◌⊕◌, ◌⊖◌, times}
@@ -24,15 +23,9 @@ use Rattle.certificate.specs.RangeTests.{record_tests, tests}
 use Rattle.certificate.specs.Soundness.{Between, NoneDearer, NoRun}
 use Rattle.certificate.specs.Tasks.{Task}
 use Rattle.certificate.specs.Trees.{Tree, leaf, split, split_record}
-use Rattle.certificate.proofs.Bounds.{limited}
+use Rattle.certificate.proofs.Bounds.{all_front, all_behind, limited}
 use Rattle.certificate.proofs.Limits.{Holds, rows_hold, at_most_holds, at_least_holds, all_rows}
 use Rattle.certificate.proofs.Walks.{places, path_within}
-
-all_front : {X : Type 0} (P : X → Type 0) (xs ys : List X) → All P (xs ++ ys) → All P xs
-all_front P xs ys h k d low = subst P (get_or_append_left xs ys d k low) (h k d (omega (arith, length-append xs ys)))
-
-all_behind : {X : Type 0} (P : X → Type 0) (xs ys : List X) → All P (xs ++ ys) → All P ys
-all_behind P xs ys h k d low = subst P (get_or-append-add xs ys k d) (h (length xs + k) d (omega (arith, length-append xs ys)))
 
 -- a run turns the edge of a split at most m times or more often, and keeps that row: so it keeps the rows of some leaf
 module _ (run : List ℕ) (P : List Line × Leaf → Type 0) where

@@ -1,5 +1,5 @@
 use Rattle.std.proofs.Common.{sym, ap, ◌∙◌}
-use Rattle.certificate.proofs.Far.{refused, range_first}
+use Rattle.certificate.proofs.RangeAnswers.{refused, range_first}
 use Rattle.certificate.proofs.ranges.ask_numbers.Goals as goal
 
 pub returns-in-Some : goal.returns-in-Some

@@ -1,9 +1,9 @@
-use Rattle.std.proofs.Common.{length, Err, sym, ap, ◌∙◌, arith, length-append}
+use Rattle.std.proofs.Common.{Err, sym, ap, ◌∙◌}
 use Rattle.std.proofs.lemmas.Result.{err_from_is_err_and}
 use Rattle.certificate.specs.Ahead.{records}
 use Rattle.certificate.specs.Verdicts.{range_answer}
 use Rattle.certificate.proofs.Bounds.{record_bounded}
-use Rattle.certificate.proofs.FrontRecords.{in_front, none_in_front}
+use Rattle.certificate.proofs.FrontRecords.{in_front}
 use Rattle.certificate.proofs.RangeAnswers.{first_asked}
 use Rattle.certificate.proofs.TreeRecords.{tests_tree}
 use Rattle.certificate.proofs.ranges.ask_ranges.Goals as goal

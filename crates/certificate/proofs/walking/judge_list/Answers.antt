@@ -1,11 +1,10 @@
-use Rattle.std.proofs.Common.{Err, sym, ap, ◌∙◌}
-use Rattle.std.proofs.lemmas.Result.{err_from_is_err_and}
+use Rattle.std.proofs.Common.{sym, ap, ◌∙◌}
 use Rattle.std.proofs.lemmas.List.Elements.{All-head, All-tail}
 use Rattle.certificate.specs.Ahead.{records}
 use Rattle.certificate.specs.Ready.{Bounded}
 use Rattle.certificate.specs.Tasks.{task_of}
 use Rattle.certificate.specs.Verdicts.{leaves_answer}
-use Rattle.certificate.proofs.FrontRecords.{in_front, none_in_front}
+use Rattle.certificate.proofs.FrontRecords.{in_front}
 use Rattle.certificate.proofs.LeafAnswers.{left, left_all, first_judged}
 use Rattle.certificate.proofs.walking.judge_list.Goals as goal
 
