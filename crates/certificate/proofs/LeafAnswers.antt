@@ -13,8 +13,8 @@ use Rattle.certificate.specs.Splits.{Branch, branches_of, first_of, second_of, p
 use Rattle.certificate.specs.Tasks.{Task, Answer}
 use Rattle.certificate.specs.Trees.{Tree, leaf, split, TreeRecord, leaf_record, split_record}
 use Rattle.certificate.specs.Verdicts.{before, record_answer, leaves_answer}
-use Rattle.certificate.proofs.Firsts.{FirstOf}
-use Rattle.certificate.proofs.Firsts.{first_of as first_or_rest}
+use Rattle.certificate.proofs.FirstOfTwo.{FirstOf}
+use Rattle.certificate.proofs.FirstOfTwo.{first_of as first_or_rest}
 use Rattle.certificate.proofs.Onward.{onward_first, onward_second}
 
 module _ (task : Task) where

@@ -21,7 +21,7 @@ use Rattle.certificate.specs.Tasks.{Task, Answer}
 use Rattle.certificate.specs.Trees.{Tree}
 use Rattle.certificate.specs.Verdicts.{before, leaf_answer, leaves_answer, found_answer, list_answer, task_answer}
 use Rattle.certificate.proofs.ByQuestions.{by_ask, by_first}
-use Rattle.certificate.proofs.Wholes.{whole_spelled, spells_it}
+use Rattle.certificate.proofs.OneTree.{whole_spelled, spells_it}
 
 module _ (le : Pair → Pair → Bool) (unit : Pair) (task : Task) (sense : Sense) (c : Pair) where
   abbrev Passing : List Line × Leaf → Type 0

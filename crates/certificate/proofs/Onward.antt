@@ -1,7 +1,11 @@
 -- The way of the path table behind a leaf.
-use Rattle.std.proofs.Common.{◌≡◌, ℕ, true, cond, not, ◌||◌, List, [], ◌∷◌, ◌++◌, refl, ap, ◌∙◌}
+use Rattle.std.proofs.Common.{◌≡◌, ℕ, true, cond, not, ◌||◌, List, [], ◌∷◌, ◌++◌, map, refl, ap, ◌∙◌}
 use Rattle.std.proofs.Math.Bool.{or-true}
-use Rattle.certificate.specs.Splits.{Branch, first_of, second_of, unfinished, onward}
+use Rattle.std.proofs.lemmas.List.{map-append}
+use Rattle.certificate.specs.declared.branches.Branch as declared
+use Rattle.certificate.specs.declared.branches.Branch.TheVariants.{AtMost, MoreThan}
+use Rattle.certificate.specs.declared.branches.Most.{Most}
+use Rattle.certificate.specs.Splits.{Branch, branch_of, first_of, second_of, unfinished, onward}
 
 unfinished_first : (ts : List Branch) (e m : ℕ) → unfinished (ts ++ (first_of e m ∷ [])) ≡ true
 unfinished_first [] e m = refl
@@ -23,3 +27,11 @@ pub onward_second : (ts : List Branch) (e m : ℕ) → onward (ts ++ (second_of 
 onward_second [] e m = refl
 onward_second (t ∷ ts) e m =
     λ i. cond (unfinished_second ts e m i) (t ∷ onward_second ts e m i) (cond t.second [] (second_of t.edge t.m ∷ []))
+
+-- the last branch of the path table
+module _ (ts us : List declared.Branch) (e : ℕ) (most : Most) where
+  pub from_first : ts ≡ us ++ (AtMost e most ∷ []) → onward (map branch_of ts) ≡ map branch_of us ++ (second_of e most.count ∷ [])
+  from_first h = ap (λ l. onward (map branch_of l)) h ∙ ap onward (map-append branch_of us (AtMost e most ∷ [])) ∙ onward_first (map branch_of us) e most.count
+
+  pub from_second : ts ≡ us ++ (MoreThan e most ∷ []) → onward (map branch_of ts) ≡ onward (map branch_of us)
+  from_second h = ap (λ l. onward (map branch_of l)) h ∙ ap onward (map-append branch_of us (MoreThan e most ∷ [])) ∙ onward_second (map branch_of us) e most.count

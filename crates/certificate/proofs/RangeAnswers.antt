@@ -13,7 +13,7 @@ use Rattle.certificate.specs.RangeTests.{near, far, record_tests}
 use Rattle.certificate.specs.Tasks.{Answer}
 use Rattle.certificate.specs.Trees.{TreeRecord, leaf_record, split_record}
 use Rattle.certificate.specs.Verdicts.{before, range_answer}
-use Rattle.certificate.proofs.Firsts.{first_append, FirstOf, first_of}
+use Rattle.certificate.proofs.FirstOfTwo.{first_append, FirstOf, first_of}
 
 -- ---- a list of potentials or of multipliers
 

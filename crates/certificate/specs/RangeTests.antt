@@ -3,8 +3,9 @@ use Rattle.std.specs.Prelude.{ℕ, Bool, true, not, ◌&&◌, List, [], ◌∷�
 use Rattle.task.specs.Coefficients.{in_range}
 use Rattle.certificate.specs.Trees.{Tree, leaf, split, TreeRecord, leaf_record, split_record}
 
-abbrev pub inside : ℤ → ℤ → ℤ → Bool
-inside low high z = int_le low z && int_le z high
+-- from 0 to `top`, ends included
+abbrev pub up_to : ℤ → ℤ → Bool
+up_to top z = int_le (pos 0) z && int_le z top
 
 -- an edge of this number exists
 abbrev pub exists : ℕ → ℤ → Bool
@@ -19,8 +20,8 @@ far z = not (in_range 67108864 z)
 
 -- one test for each number of a record, where D is at most `top`; the 0 or 1 in front is always in range
 abbrev pub record_tests : ℕ → ℤ → TreeRecord → List Bool
-record_tests edges top (leaf_record scale potentials multipliers) = true ∷ inside (pos 0) top scale ∷ (near potentials ++ near multipliers)
-record_tests edges top (split_record edge most) = true ∷ exists edges edge ∷ inside (pos 0) (pos 1048575) most ∷ []
+record_tests edges top (leaf_record scale potentials multipliers) = true ∷ up_to top scale ∷ (near potentials ++ near multipliers)
+record_tests edges top (split_record edge most) = true ∷ exists edges edge ∷ up_to (pos 1048575) most ∷ []
 
 abbrev pub tests : ℕ → ℤ → Tree → List Bool
 tests edges top (leaf scale potentials multipliers) = record_tests edges top (leaf_record scale potentials multipliers)

@@ -3,7 +3,7 @@
 ghost use Rattle.std.specs.Prelude.{◌≡◌, ◌+◌, ◌^◌, ◌<◌, length, position, pos, ◌≤ℤ◌};
 ghost use Rattle.certificate.specs.Ahead.{numbers};
 ghost use Rattle.certificate.specs.Held.{held};
-ghost use Rattle.certificate.specs.RangeTests.{exists, far, inside, near, record_tests, tests};
+ghost use Rattle.certificate.specs.RangeTests.{exists, far, up_to, near, record_tests, tests};
 ghost use Rattle.certificate.specs.Trees.{Spells, Tree, leaf_record, split_record};
 ghost use Rattle.certificate.specs.Verdicts.{range_answer};
 ghost use Rattle.task.specs.Coefficients.{in_range};
@@ -12,12 +12,10 @@ use crate::faults::TreeFault;
 use crate::reading::Record;
 use crate::records::Records;
 use crate::shapes::Shape;
+use task::MAX_TURNS;
 
 // The largest potential and multiplier, 2^26; the smallest is its negative.
 const MAX_NUMBER: i32 = 67_108_864;
-
-// The most turns of an edge, the limit of all turns, here among the signed numbers of a tree.
-const MAX_MOST: i32 = 1_048_575;
 
 // What a tree is asked for: one of so many edges, and a D of at most `top`.
 #[derive(Clone, Copy)]
@@ -43,9 +41,16 @@ fn is_near(z: i32) -> bool
 
 // Can D be this number?
 fn is_scale(top: i32, z: i32) -> bool
-    ensures { result ≡ inside (pos 0) top z }
+    ensures { result ≡ up_to top z }
 {
     (0..=top).contains(&z)
+}
+
+// Can a split name this many turns?
+fn is_most(z: i32) -> bool
+    ensures { result ≡ up_to (pos 1048575) z }
+{
+    u32::try_from(z).is_ok_and(|most| most <= MAX_TURNS)
 }
 
 fn first_far(list: &[i32]) -> Option<usize>
@@ -91,7 +96,7 @@ fn ask_split(place: usize, edges: usize, edge: i32, most: i32) -> Result<(), Tre
     if !is_edge(edges, edge) {
         return Err(TreeFault::Range { place: place + 1 });
     }
-    if !(0..=MAX_MOST).contains(&most) {
+    if !is_most(most) {
         return Err(TreeFault::Range { place: place + 2 });
     }
     Ok(())

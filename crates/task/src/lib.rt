@@ -21,3 +21,4 @@ pub use numbers::{NODES, Node};
 pub use rows::{BLOCKS, Relation, Row};
 pub use sealing::{ends, nodes};
 pub use tasks::{Flow, MAX_EDGES, MAX_ROWS, Task};
+pub use turns::MAX_TURNS;

@@ -12,7 +12,8 @@ use crate::numbers::Node;
 use crate::sealing::nodes;
 use crate::tasks::{Flow, Task};
 
-const MAX_TURNS: u32 = 1_048_575;
+/// As many turns as an edge may have.
+pub const MAX_TURNS: u32 = 1_048_575;
 
 impl Flow<'_> {
     // The lowest edge with too many turns.

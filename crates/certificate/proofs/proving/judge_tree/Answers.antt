@@ -3,8 +3,8 @@ use Rattle.std.proofs.lemmas.Result.{err_from_is_err_and}
 use Rattle.std.proofs.lemmas.Int.{to_z-of_z}
 use Rattle.certificate.specs.Tasks.{task_of}
 use Rattle.certificate.specs.Verdicts.{before, found_answer, tree_answer}
-use Rattle.certificate.proofs.Bounds.{tree_bounded}
-use Rattle.certificate.proofs.Wholes.{is_tree, no_tree}
+use Rattle.certificate.proofs.RecordsBounded.{tree_bounded}
+use Rattle.certificate.proofs.OneTree.{is_tree, no_tree}
 use Rattle.certificate.proofs.proving.judge_tree.Goals as goal
 
 pub returns-then-not-is_one_tree : goal.returns-then-not-is_one_tree

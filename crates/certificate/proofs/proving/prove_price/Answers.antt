@@ -2,7 +2,7 @@ use Rattle.std.proofs.Common.{pos, sym, subst}
 use Rattle.certificate.specs.TreeJudged.{TreeJudged}
 use Rattle.certificate.specs.Tasks.{task_of}
 use Rattle.certificate.proofs.Meanings.{judged}
-use Rattle.certificate.proofs.Proves.{price_sound}
+use Rattle.certificate.proofs.AcceptedProves.{price_sound}
 use Rattle.certificate.proofs.proving.prove_price.Goals as goal
 
 pub returns : goal.returns

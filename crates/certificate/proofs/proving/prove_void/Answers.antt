@@ -5,7 +5,7 @@ use Rattle.certificate.specs.TreeJudged.{VoidJudged}
 use Rattle.certificate.specs.Tasks.{task_of}
 use Rattle.certificate.specs.Verdicts.{task_answer}
 use Rattle.certificate.proofs.Meanings.{judged}
-use Rattle.certificate.proofs.Proves.{void_sound}
+use Rattle.certificate.proofs.AcceptedProves.{void_sound}
 use Rattle.certificate.proofs.proving.prove_void.Goals as goal
 
 pub returns : goal.returns

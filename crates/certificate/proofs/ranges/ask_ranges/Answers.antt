@@ -2,7 +2,7 @@ use Rattle.std.proofs.Common.{Err, sym, ap, ◌∙◌}
 use Rattle.std.proofs.lemmas.Result.{err_from_is_err_and}
 use Rattle.certificate.specs.Ahead.{records}
 use Rattle.certificate.specs.Verdicts.{range_answer}
-use Rattle.certificate.proofs.Bounds.{record_bounded}
+use Rattle.certificate.proofs.RecordsBounded.{record_bounded}
 use Rattle.certificate.proofs.FrontRecords.{in_front}
 use Rattle.certificate.proofs.RangeAnswers.{first_asked}
 use Rattle.certificate.proofs.TreeRecords.{tests_tree}

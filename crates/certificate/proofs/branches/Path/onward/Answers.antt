@@ -1,7 +1,7 @@
 use Rattle.std.proofs.Common.{[], ◌∷◌, ◌++◌, map, sym, ap, ◌∙◌}
 use Rattle.std.proofs.lemmas.List.{map-append}
 use Rattle.certificate.specs.Splits.{branch_of}
-use Rattle.certificate.proofs.PathSteps.{from_first, from_second}
+use Rattle.certificate.proofs.Onward.{from_first, from_second}
 use Rattle.certificate.proofs.branches.Path.onward.Goals as goal
 
 pub returns-in-AtMost : goal.returns-in-AtMost

@@ -18,7 +18,7 @@ use Rattle.task.specs.Turns.{turns, turns_in}
 use Rattle.task.proofs.ByPlaces.{runs_exist, rows_by_places}
 use Rattle.certificate.specs.LeafTests.{sign_ok}
 use Rattle.certificate.specs.Lines.{Line, limit_of, case_line, at_most, at_least, charge, no_line}
-use Rattle.certificate.proofs.Walks.{places}
+use Rattle.certificate.proofs.Telescoping.{places}
 
 abbrev WithinLimit : Relation → ℤ → ℤ → Type 0
 WithinLimit Below sum limit = sum ≤ℤ limit

@@ -23,9 +23,9 @@ use Rattle.certificate.specs.RangeTests.{record_tests, tests}
 use Rattle.certificate.specs.Soundness.{Between, NoneDearer, NoRun}
 use Rattle.certificate.specs.Tasks.{Task}
 use Rattle.certificate.specs.Trees.{Tree, leaf, split, split_record}
-use Rattle.certificate.proofs.Bounds.{all_front, all_behind, limited}
-use Rattle.certificate.proofs.Limits.{Holds, rows_hold, at_most_holds, at_least_holds, all_rows}
-use Rattle.certificate.proofs.Walks.{places, path_within}
+use Rattle.certificate.proofs.RecordsBounded.{all_front, all_behind, limited}
+use Rattle.certificate.proofs.ChargesWithinLimits.{Holds, rows_hold, at_most_holds, at_least_holds, all_rows}
+use Rattle.certificate.proofs.Telescoping.{places, path_within}
 
 -- a run turns the edge of a split at most m times or more often, and keeps that row: so it keeps the rows of some leaf
 module _ (run : List ℕ) (P : List Line × Leaf → Type 0) where

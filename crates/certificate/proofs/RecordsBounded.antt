@@ -7,7 +7,7 @@ use Rattle.std.proofs.lemmas.Int.{ints}
 use Rattle.std.proofs.lemmas.List.Elements.{All-nil, All-cons, All-head, All-tail}
 use Rattle.std.proofs.lemmas.Bool.{and_parts}
 use Rattle.task.specs.Coefficients.{in_range}
-use Rattle.certificate.specs.RangeTests.{inside, near, record_tests, tests}
+use Rattle.certificate.specs.RangeTests.{up_to, near, record_tests, tests}
 use Rattle.certificate.specs.Ahead.{records}
 use Rattle.certificate.specs.Ready.{Small, Bounded}
 use Rattle.certificate.specs.Tasks.{Answer}
@@ -32,14 +32,14 @@ small [] h k = (omega (arith, ints), omega (arith, ints))
 small (x ∷ xs) h zero = within_is 67108864 x (All-head IsTrue (in_range 67108864 x) (near xs) h)
 small (x ∷ xs) h (suc k) = small xs (All-tail IsTrue (in_range 67108864 x) (near xs) h) k
 
-pub limited : (high z : ℤ) (n : ℕ) → high ≤ℤ pos n → inside (pos 0) high z ≡ true → nat_abs z ≤ n
+pub limited : (high z : ℤ) (n : ℕ) → high ≤ℤ pos n → up_to high z ≡ true → nat_abs z ≤ n
 limited high (pos k) n h e = let t = and_parts (int_le (pos 0) (pos k)) (int_le (pos k) high) e in grind (arith, ints, t)
 limited high (negsuc k) n h e = let t = and_parts (int_le (pos 0) (negsuc k)) (int_le (negsuc k) high) e in grind (arith, ints, t)
 
 module _ (edges : ℕ) (top : ℤ) (few : top ≤ℤ pos 1000) where
   of_record : (r : TreeRecord) → All IsTrue (record_tests edges top r) → Bounded r
   of_record (leaf_record d ps ms) h =
-      let rest = all_behind IsTrue (true ∷ inside (pos 0) top d ∷ []) (near ps ++ near ms) h in
+      let rest = all_behind IsTrue (true ∷ up_to top d ∷ []) (near ps ++ near ms) h in
       (limited top d 1000 few (h 1 true (omega arith)), small ps (all_front IsTrue (near ps) (near ms) rest), small ms (all_behind IsTrue (near ps) (near ms) rest))
   of_record (split_record a m) h = limited (pos 1048575) m 1048575 (omega (arith, ints)) (h 2 true (omega arith))
 

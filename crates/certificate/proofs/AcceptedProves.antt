@@ -9,7 +9,7 @@ use Rattle.certificate.specs.Lines.{leaves, case_lines}
 use Rattle.certificate.specs.Soundness.{PriceProved, VoidProved}
 use Rattle.certificate.specs.Tasks.{Task, Answer}
 use Rattle.certificate.specs.Trees.{Tree}
-use Rattle.certificate.proofs.Theorems.{none_dearer, no_run}
+use Rattle.certificate.proofs.RunsBounded.{none_dearer, no_run}
 
 module _ (le : Pair → Pair → Bool) (unit : Pair) (task : Task) (sense : Sense) (c : Pair) (top : ℤ) (xs : List ℤ) where
   -- an answer that accepts proves what a tree whose leaves all pass proves
