@@ -40,7 +40,7 @@ module _ (task : Task) where
       ∙ sym (append_assoc (leaves (lines_at task ts ++ (path_line low ∷ [])) a) (leaves (lines_at task ts ++ (path_line high ∷ [])) b) (left (onward ts) rs))
 
   pub left_all : (t : Tree) → left [] (records t) ≡ leaves (case_lines task) t
-  left_all t = rw (← append-nil (records t), left_tree, append-nil, append-nil) refl
+  left_all t = rw (← append-nil (records t), left_tree, append-nil (leaves (lines_at task []) t), append-nil (case_lines task)) refl
 
 -- the answer is that of the leaves of the records ahead, whose numbers are in range
 pub record Judging (le : Pair → Pair → Bool) (unit : Pair) (task : Task) (sense : Sense) (c : Pair) (all : Answer) (r : Records) (rs : List TreeRecord) : Type 0 where

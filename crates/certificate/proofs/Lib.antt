@@ -3,7 +3,7 @@ pub mod Entries
 pub mod Onward
 pub mod Charges
 pub mod Levels
-pub mod Signs
+pub mod RelationsOfRows
 pub mod FirstOfTwo
 pub mod Spellings
 pub mod TreeRecords

@@ -1,9 +1,6 @@
 -- What the records and lists of the code hold. To compute with.
-use Rattle.std.specs.Prelude.{ℕ, zero, suc, Bool, true, false, List, [], ◌∷◌, map, length, ℤ, Some, None, Option, ◌==◌}
+use Rattle.std.specs.Prelude.{Bool, false, List, map, length, ℤ, Some, None, Option, ◌==◌}
 use Rattle.std.specs.Borrow.{Bor}
-use Rattle.task.specs.declared.rows.Relation.{Relation}
-use Rattle.task.specs.declared.rows.Relation.TheVariants.{Below, AtMost, Equal}
-use Rattle.task.specs.Rows.{Row}
 use Rattle.certificate.specs.declared.leaf.Leaf.{Leaf}
 use Rattle.certificate.specs.declared.reading.Record.{Record}
 use Rattle.certificate.specs.declared.reading.Record.TheVariants as code
@@ -40,14 +37,3 @@ leaf_held l = record { scale = l.scale; potentials = lines.pairs l.potentials.no
 -- the rows of a leaf of the code
 abbrev pub lines_of : Leaf → List lines.Line
 lines_of l = lines_at (task_of l.claim.task.now) (map branch_of l.path.now)
-
--- whether the row of a number wants equality
-abbrev pub is_equal : Relation → Bool
-is_equal Below = false
-is_equal AtMost = false
-is_equal Equal = true
-
-abbrev pub equal_at : List Row → ℕ → Bool
-equal_at [] i = false
-equal_at (r ∷ rs) zero = is_equal r.relation
-equal_at (r ∷ rs) (suc i) = equal_at rs i

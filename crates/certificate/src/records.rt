@@ -5,7 +5,8 @@ use crate::branches::Path;
 use crate::reading::{Record, read_record};
 use crate::shapes::Shape;
 
-// What is left of a list of `whole` numbers: a record stands in front, under these branches and behind so many leaves.
+// What is left of a list of `whole` numbers, read record by record. The ranges and the leaves are asked in this walk.
+// Above the record in front are the branches of the path table, and before it stand so many leaves.
 #[derive(Drop)]
 pub(crate) struct Records<'a> {
     shape: Shape,
@@ -68,7 +69,7 @@ impl<'a> Records<'a> {
         self.leaves
     }
 
-    // Goes past the record in front: from a split into its first tree, from a leaf onward.
+    // Goes past the record in front, and so the path table: from a split into its first tree, from a leaf onward.
     pub(crate) fn pass(&mut self, read: Record<'a>, rest: &'a [i32])
         requires { (rs : List TreeRecord) × Ahead self.old (held read ∷ rs) × (written rs ≡ rest.now) × Bounded (held read) }
         ensures ahead { (rs : List TreeRecord) → Ahead self.old (held read.entry ∷ rs) → written rs ≡ rest.entry.now → Ahead self.new rs × (place_of self.new ≡ place_of self.old + length (numbers (held read.entry))) }

@@ -60,7 +60,7 @@ impl Shape {
     }
 }
 
-// What is left of the list behind one tree. `ask_ranges` goes down in the same two steps, and answers the place at fault.
+// What is left of the list behind one tree.
 fn after_tree<'a>(list: &'a [i32], shape: Shape) -> Option<&'a [i32]>
     ensures { list_held result ≡ rest_of (read_tree shape.splits shape.nodes shape.rows list.now) }
 {
