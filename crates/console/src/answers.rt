@@ -77,10 +77,7 @@ impl Reply {
                 price,
                 steps,
                 left,
-            } => Reply::word("ok 2")
-                .price(price)
-                .number(steps)
-                .number(left),
+            } => Reply::word("ok 2").price(price).number(steps).number(left),
             Report::Void => Reply::word("ok 3 0 0 0 0"),
         }
     }
