@@ -21,7 +21,7 @@ use Rattle.judge.specs.declared.stages.Proof.TheVariants.{Certified}
 use Rattle.history.specs.Answers.{Said, numbered, ended, priced, stepped, next_or_done, unless_refused, number, ends, price, next, done, agreed, told as tells}
 use Rattle.history.specs.Calls.{Request, edge, row, seal, claim, void, step, withdraw, told}
 use Rattle.history.specs.History.{Event, History, ◌gives◌, accepted, Answers, Moment, Begins}
-use Rattle.history.specs.Known.{Claimed, Stands, Void, claimed_by, voided_by, steps, turns_left}
+use Rattle.history.specs.Known.{Claimed, Stands, Void, steps, turns_left}
 use Rattle.history.specs.Performing.{answered}
 use Rattle.history.specs.Reaching.{Reached, start, one_more}
 use Rattle.history.specs.Rules.{HandsOut, Tells, Rules}

@@ -1,5 +1,5 @@
 -- The rules refute hollow answers.
-use Rattle.std.proofs.Common.{◌≡◌, ℕ, zero, suc, ◌+◌, ◌<◌, Bool, List, [], ◌∷◌, ◌++◌, map, get_or, ℤ, sym, refl, ap, ◌∙◌, subst, inl, inr, ◌≢◌, arith}
+use Rattle.std.proofs.Common.{◌≡◌, ℕ, zero, suc, ◌+◌, ◌<◌, Bool, List, [], ◌∷◌, ◌++◌, map, get_or, ℤ, sym, refl, ap, ◌∙◌, inl, inr, ◌≢◌, arith}
 use lib.Signed.{le_z_yes}
 use Rattle.std.proofs.lemmas.List.Elements.{All-nil, All-cons, All-map}
 use Rattle.judge.specs.declared.stages.Proof.TheVariants.{Certified}
