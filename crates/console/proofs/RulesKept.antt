@@ -8,7 +8,7 @@ use Rattle.history.specs.Calls.{Request}
 use Rattle.judge.specs.Cases.{Contents}
 use Rattle.history.specs.History.{History, ◌gives◌, with_call}
 use Rattle.history.specs.Reaching as judging
-use Rattle.history.proofs.Kept.{kept}
+use Rattle.history.proofs.RulesKept.{kept}
 use Rattle.history.proofs.Plays.{goes_on}
 use Rattle.grammar.specs.Reading.{request_in}
 use Rattle.grammar.specs.Spelling.{Spells}

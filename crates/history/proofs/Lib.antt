@@ -1,9 +1,9 @@
-mod Handed
+mod HandedOut
 mod LastEvent
-mod Remaining
+mod StandsAlone
 mod Meaning
 mod Stepping
-mod Calling
-pub mod Kept
+mod EveryCall
+pub mod RulesKept
 pub mod Plays
 mod Refutes

@@ -16,7 +16,7 @@ use Rattle.judge.specs.declared.stages.Proof.TheVariants.{Certified}
 use Rattle.history.specs.History.{Event, History, accepted}
 use Rattle.history.specs.Known.{Claimed, Bearing, quiet, bearing, claimed_by, voided_by, edge_by, row_by, edges_of, rows_of}
 use Rattle.history.proofs.LastEvent.{edges_more, rows_more}
-use Rattle.history.proofs.Remaining.{Alone, on, then}
+use Rattle.history.proofs.StandsAlone.{Alone, on, then}
 
 -- an edge between two of the nodes 0 to 31
 pub record Low (e : Edge) : Type 0 where

@@ -16,7 +16,7 @@ use Rattle.history.specs.History.{Event, History, ◌gives◌, with_call}
 use Rattle.history.specs.Known.{edges_of, rows_of, closes, bearing, claimed_by, voided_by, Stands, Void}
 use Rattle.history.specs.Refuting.{task, turns, certified, Refuted, HollowAnswersRefuted}
 use Rattle.history.specs.Rules.{HandsOut}
-use Rattle.history.proofs.Remaining.{at_first, none_left}
+use Rattle.history.proofs.StandsAlone.{at_first, none_left}
 
 abbrev graph : List Edge
 graph = edges_of task

@@ -21,7 +21,7 @@ use Rattle.judge.specs.Claiming.{Best, walk_from}
 use Rattle.judge.specs.Handing.{next_of, walk_on}
 use Rattle.judge.specs.Stages.{Standing}
 use Rattle.judge.specs.declared.stages.Proof.TheVariants.{Certified}
-use Rattle.history.proofs.Handed.{its_claim}
+use Rattle.history.proofs.HandedOut.{its_claim}
 use Rattle.history.proofs.Meaning.{Low, Holds}
 
 -- ---- the nodes of a case are 0 to 31

@@ -1,6 +1,6 @@
 use Rattle.history.specs.Answers.{said}
 use Rattle.history.specs.Calls.{request}
-use Rattle.history.proofs.Kept.{kept}
+use Rattle.history.proofs.RulesKept.{kept}
 use Rattle.history.proofs.Plays.{goes_on}
 use Rattle.history.proofs.performing.perform.Goals as goal
 

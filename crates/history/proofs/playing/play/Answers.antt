@@ -2,7 +2,7 @@ use Rattle.std.proofs.Common.{[], length, take, vec_items, sym, ap, subst, arith
 use Rattle.history.specs.declared.calls.Call.TheVariants.{Edge}
 use Rattle.history.specs.History.{history}
 use Rattle.history.specs.Reaching.{Reached, start}
-use Rattle.history.proofs.Kept.{kept}
+use Rattle.history.proofs.RulesKept.{kept}
 use Rattle.history.proofs.Plays.{history_step}
 use Rattle.history.proofs.playing.play.Goals as goal
 

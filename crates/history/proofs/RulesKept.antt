@@ -25,8 +25,8 @@ use Rattle.history.specs.Known.{Claimed, Stands, Void, steps, turns_left}
 use Rattle.history.specs.Performing.{answered}
 use Rattle.history.specs.Reaching.{Reached, start, one_more}
 use Rattle.history.specs.Rules.{HandsOut, Tells, Rules}
-use Rattle.history.proofs.Calling.{meaning}
-use Rattle.history.proofs.Handed.{begun, left_same, hands_out}
+use Rattle.history.proofs.EveryCall.{meaning}
+use Rattle.history.proofs.HandedOut.{begun, left_same, hands_out}
 use Rattle.history.proofs.LastEvent.{nil_is_no_cons, Last, here, inside, last}
 use Rattle.history.proofs.Meaning.{Low, Holds, OneClaim, ByStage, Meaning}
 use Rattle.history.proofs.Stepping.{step_says}

@@ -30,7 +30,7 @@ use Rattle.history.specs.Performing.{answered, after}
 use Rattle.history.specs.Reaching.{Reached, start, one_more}
 use Rattle.history.proofs.LastEvent.{edges_more, rows_more}
 use Rattle.history.proofs.Meaning.{Low, ByStage, Meaning, claim_of, stands_then, stays, moved, unmoved}
-use Rattle.history.proofs.Remaining.{at_first}
+use Rattle.history.proofs.StandsAlone.{at_first}
 use Rattle.history.proofs.Stepping.{stands_from, holds_first, holds_next}
 
 is_drafted : (stage : Stage) → is_draft stage ≡ true → stage ≡ draft
