@@ -2,18 +2,18 @@
 use Rattle.std.proofs.Common.{◌≡◌, ℕ, ◌+◌, List, [], ◌∷◌, ◌++◌, length, ℤ, Some, None, Option, sym, refl, ap, subst}
 use Rattle.std.proofs.lemmas.Option.{same_Some}
 use Rattle.certificate.specs.declared.records.Records.{Records}
-use Rattle.certificate.specs.Ahead.{Ahead, numbers, written, first_and_rest, Stands, AllStand}
+use Rattle.certificate.specs.Ahead.{Ahead, numbers, written, first_and_rest, HasPlace, AllHavePlace}
 use Rattle.certificate.specs.Reading.{first_record}
 use Rattle.certificate.specs.Splits.{Branch}
 use Rattle.certificate.specs.Trees.{TreeRecord, leaf_record, split_record}
 use Rattle.certificate.proofs.Spellings.{leaf_whole}
 
 module _ (nodes rows : ℕ) (ts : List Branch) where
-  first_is : (r : TreeRecord) (zs : List ℤ) → Stands nodes rows ts r → first_record nodes (rows + length ts) (numbers r ++ zs) ≡ Some (r, zs)
+  first_is : (r : TreeRecord) (zs : List ℤ) → HasPlace nodes rows ts r → first_record nodes (rows + length ts) (numbers r ++ zs) ≡ Some (r, zs)
   first_is (leaf_record d ps ms) zs s = leaf_whole nodes (rows + length ts) d ps ms zs s.0 s.1
   first_is (split_record e m) zs s = refl
 
-  pub front_is : (rs : List TreeRecord) → AllStand nodes rows ts rs → first_record nodes (rows + length ts) (written rs) ≡ first_and_rest rs
+  pub front_is : (rs : List TreeRecord) → AllHavePlace nodes rows ts rs → first_record nodes (rows + length ts) (written rs) ≡ first_and_rest rs
   front_is [] s = refl
   front_is (r ∷ rs) s = first_is r (written rs) s.0
 

@@ -3,7 +3,7 @@ use Rattle.std.proofs.Common.{◌≡◌, ℕ, zero, suc, ◌+◌, ◌≤◌, Lis
 use Rattle.std.specs.List.{flat_map}
 use Rattle.std.proofs.lemmas.List.{append-nil}
 use Rattle.std.proofs.lemmas.List.Concat.{flat_map-append}
-use Rattle.certificate.specs.Ahead.{records, numbers, written, AllStand}
+use Rattle.certificate.specs.Ahead.{records, numbers, written, AllHavePlace}
 use Rattle.certificate.specs.RangeTests.{record_tests, tests}
 use Rattle.certificate.specs.Splits.{Branch, first_of, second_of, onward}
 use Rattle.certificate.specs.Trees.{Tree, leaf, split, TreeRecord, leaf_record, split_record, spelled, Fits}
@@ -21,7 +21,7 @@ tests_tree edges top (split e m a b) =
 
 module _ (nodes rows : ℕ) where
   -- a tree, and then what stands behind it
-  pub stand : (k : ℕ) (t : Tree) (ts : List Branch) (rs : List TreeRecord) → Fits k nodes (rows + length ts) t → length ts + k ≤ 12 → AllStand nodes rows (onward ts) rs → AllStand nodes rows ts (records t ++ rs)
+  pub stand : (k : ℕ) (t : Tree) (ts : List Branch) (rs : List TreeRecord) → Fits k nodes (rows + length ts) t → length ts + k ≤ 12 → AllHavePlace nodes rows (onward ts) rs → AllHavePlace nodes rows ts (records t ++ rs)
   stand zero (leaf d ps ms) ts rs f h then = (f, then)
   stand (suc k) (leaf d ps ms) ts rs f h then = (f, then)
   stand zero (split e m a b) ts rs f h then = absurd f
@@ -30,8 +30,8 @@ module _ (nodes rows : ℕ) where
       let down : (t : Branch) → length (ts ++ (t ∷ [])) + k ≤ 12 = λ t. simp length-append (omega arith) in
       let low : Branch = first_of (nat_abs e) (nat_abs m) in
       let high : Branch = second_of (nat_abs e) (nat_abs m) in
-      let last : AllStand nodes rows (ts ++ (high ∷ [])) (records b ++ rs) =
+      let last : AllHavePlace nodes rows (ts ++ (high ∷ [])) (records b ++ rs) =
       stand k b (ts ++ (high ∷ [])) rs (subst (λ (n : ℕ). Fits k nodes n b) (pushed high) f.1) (down high) (rw onward_second then) in
-      let both : AllStand nodes rows (ts ++ (low ∷ [])) (records a ++ (records b ++ rs)) =
+      let both : AllHavePlace nodes rows (ts ++ (low ∷ [])) (records a ++ (records b ++ rs)) =
       stand k a (ts ++ (low ∷ [])) (records b ++ rs) (subst (λ (n : ℕ). Fits k nodes n a) (pushed low) f.0) (down low) (rw onward_first last) in
       (omega arith, rw (append_assoc (records a) (records b) rs) both)

@@ -33,18 +33,18 @@ first_and_rest (r ∷ rs) = Some (r, written rs)
 
 module _ (nodes rows : ℕ) where
   -- a record may stand under these splits: a leaf has two numbers for each node and each row, and a split is not the thirteenth
-  abbrev pub Stands : List Branch → TreeRecord → Type 0
-  Stands ts (leaf_record scale potentials multipliers) = (length potentials ≡ 2 * nodes) × (length multipliers ≡ 2 * (rows + length ts))
-  Stands ts (split_record edge most) = length ts < 12
+  abbrev pub HasPlace : List Branch → TreeRecord → Type 0
+  HasPlace ts (leaf_record scale potentials multipliers) = (length potentials ≡ 2 * nodes) × (length multipliers ≡ 2 * (rows + length ts))
+  HasPlace ts (split_record edge most) = length ts < 12
 
   -- each may stand where it does, the first under these splits
-  abbrev pub AllStand : List Branch → List TreeRecord → Type 0
-  AllStand ts [] = Unit {0}
-  AllStand ts (r ∷ rs) = Stands ts r × AllStand (after r ts) rs
+  abbrev pub AllHavePlace : List Branch → List TreeRecord → Type 0
+  AllHavePlace ts [] = Unit {0}
+  AllHavePlace ts (r ∷ rs) = HasPlace ts r × AllHavePlace (after r ts) rs
 
 -- what is left of the list spells these records
 pub record Ahead (r : Records) (rs : List TreeRecord) : Type 0 where
-  pub stand : AllStand r.shape.nodes r.shape.rows (branches_of r.path) rs
+  pub stand : AllHavePlace r.shape.nodes r.shape.rows (branches_of r.path) rs
   pub is : written rs ≡ r.rest.now
   pub counted : r.leaves + length r.rest.now ≤ r.whole
 

@@ -6,7 +6,7 @@ use Rattle.std.proofs.lemmas.List.{append-nil, nil_from_length}
 use Rattle.std.proofs.lemmas.Bool.{cond-true, eqb-true, le-leb, leb-true}
 use Rattle.std.proofs.lemmas.Slice.Eq.{text_from_reads}
 use Rattle.grammar.specs.Numbers.{after, natural_after}
-use Rattle.grammar.specs.Reading.{naturals_front, integers_in, edge_of, edge_in, row_of, row_in, claim_of, claim_in, void_in, alone, bare_call, by_word, request_in}
+use Rattle.grammar.specs.Reading.{naturals_front, integers_in, edge_request, edge_in, row_request, row_in, claim_of, claim_in, void_in, alone, bare_call, by_word, request_in}
 use Rattle.history.specs.Calls.{Request, edge, row, seal, claim, void, step, withdraw, told}
 use Rattle.grammar.specs.Spelling.{naturals, integers, Within, Spelling, Spells}
 use Rattle.grammar.proofs.Chains.{and_then_holds, map_holds, or_holds, test_holds}
@@ -25,17 +25,17 @@ five ns h = text_from_reads ns (get_or ns 0 0 ∷ get_or ns 1 0 ∷ get_or ns 2 
 
 edge_sound : (text : List ℕ) → IfSome (edge_in text) (Right (codes "edge" ++ text))
 edge_sound text =
-    and_then_holds edge_of (naturals_front 5 text) _ (naturals_sound 5 text) (λ p found. test_holds (eqb (length p.1) 0) _ _ (λ e.
+    and_then_holds edge_request (naturals_front 5 text) _ (naturals_sound 5 text) (λ p found. test_holds (eqb (length p.1) 0) _ _ (λ e.
     let all = five p.0 found.2 in let none = nil_from_length p.1 (eqb-true (length p.1) 0 e) in
     (rw all at found.1, cc (append-nil (naturals p.0)))))
 
-row_right : (text : List ℕ) (zs : List ℤ) → FoundIntegers 512 text zs → IfSome (row_of zs) (Right (codes "row" ++ text))
+row_right : (text : List ℕ) (zs : List ℤ) → FoundIntegers 512 text zs → IfSome (row_request zs) (Right (codes "row" ++ text))
 row_right text [] found = tt
 row_right text (relation ∷ []) found = tt
 row_right text (relation ∷ k ∷ zs) found = ((found.1, omega (arith, found.2)), cc)
 
 row_sound : (text : List ℕ) → IfSome (row_in text) (Right (codes "row" ++ text))
-row_sound text = and_then_holds row_of (integers_in 512 text) _ (integers_sound 512 text) (row_right text)
+row_sound text = and_then_holds row_request (integers_in 512 text) _ (integers_sound 512 text) (row_right text)
 
 claim_sound : (text : List ℕ) → IfSome (claim_in text) (Right (codes "claim" ++ text))
 claim_sound text =
@@ -79,7 +79,7 @@ by_word_sound line =
 by_word_complete : (q : Request) (line : List ℕ) → Within q → Spelling q line → by_word line ≡ Some q
 by_word_complete (edge new) line small is =
     let ns = new.tail ∷ new.head ∷ new.block ∷ new.cycles ∷ new.reads ∷ [] in
-    ap by_word is ∙ ap edge_in (sym (append-nil (naturals ns))) ∙ ap (option_and_then edge_of) (naturals_complete ns [] small tt)
+    ap by_word is ∙ ap edge_in (sym (append-nil (naturals ns))) ∙ ap (option_and_then edge_request) (naturals_complete ns [] small tt)
 by_word_complete (row relation k zs) line small is = rw (is, integers_complete 512 (relation ∷ k ∷ zs) small.0 (omega (arith, small.1)))
 by_word_complete (claim turns tree) line small is =
     rw (

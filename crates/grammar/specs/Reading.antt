@@ -21,18 +21,18 @@ integers_in (suc room) (c ∷ cs) = option_and_then (λ p. option_map (λ zs. p.
 abbrev numbered : List ℕ → NewEdge
 numbered ns = record { tail = slice_index ns 0; head = slice_index ns 1; block = slice_index ns 2; cycles = slice_index ns 3; reads = slice_index ns 4 }
 
-abbrev pub edge_of : List ℕ × List ℕ → Option Request
-edge_of p = cond (length p.1 == 0) (Some (edge (numbered p.0))) None
+abbrev pub edge_request : List ℕ × List ℕ → Option Request
+edge_request p = cond (length p.1 == 0) (Some (edge (numbered p.0))) None
 
 abbrev pub edge_in : List ℕ → Option Request
-edge_in text = option_and_then edge_of (naturals_front 5 text)
+edge_in text = option_and_then edge_request (naturals_front 5 text)
 
-abbrev pub row_of : List ℤ → Option Request
-row_of (relation ∷ k ∷ coefficients) = Some (row relation k coefficients)
-row_of other = None
+abbrev pub row_request : List ℤ → Option Request
+row_request (relation ∷ k ∷ coefficients) = Some (row relation k coefficients)
+row_request other = None
 
 abbrev pub row_in : List ℕ → Option Request
-row_in text = option_and_then row_of (integers_in 512 text)
+row_in text = option_and_then row_request (integers_in 512 text)
 
 -- the count of turns, the turns, and the tree
 abbrev pub claim_of : ℕ × List ℕ → Option Request

@@ -3,7 +3,7 @@ use Rattle.std.proofs.Common.{◌≡◌, cond, List, [], ◌∷◌, ◌++◌, Al
 use Rattle.std.proofs.lemmas.List.Elements.{All-contains, Contains-push}
 use Rattle.std.proofs.lemmas.List.{get_or_append_left}
 use Rattle.history.specs.History.{Event, History, accepted}
-use Rattle.history.specs.Known.{edge_by, row_by, edges_of, rows_of, bearing, edge_in, handed_out}
+use Rattle.history.specs.Known.{edge_by, row_by, edges_of, rows_of, bearing, edge_handed, handed_out}
 
 module _ {A : Type 0} where
   pub nil_is_no_cons : (ys : List A) (y : A) (zs : List A) → [] ≡ ys ++ (y ∷ zs) → ⊥
@@ -46,5 +46,5 @@ edges_more = added (λ e. cond (accepted e.answer) (edge_by e.call) []) edges_of
 pub rows_more : (h : History) (e : Event) → rows_of (h ++ (e ∷ [])) ≡ rows_of h ++ cond (accepted e.answer) (row_by e.call) []
 rows_more = added (λ e. cond (accepted e.answer) (row_by e.call) []) rows_of refl (λ e h. refl)
 
-pub handed_more : (h : History) (e : Event) → handed_out (h ++ (e ∷ [])) ≡ handed_out h ++ edge_in (bearing e)
-handed_more = added (λ e. edge_in (bearing e)) handed_out refl (λ e h. refl)
+pub handed_more : (h : History) (e : Event) → handed_out (h ++ (e ∷ [])) ≡ handed_out h ++ edge_handed (bearing e)
+handed_more = added (λ e. edge_handed (bearing e)) handed_out refl (λ e h. refl)

@@ -101,14 +101,14 @@ Void = Since voided_by
 
 -- ---- the steps handed out
 
-abbrev pub edge_in : Bearing → List ℕ
-edge_in (hands x) = x ∷ []
-edge_in other = []
+abbrev pub edge_handed : Bearing → List ℕ
+edge_handed (hands x) = x ∷ []
+edge_handed other = []
 
 -- the edges that step answered, in order; done counts for none
 abbrev pub handed_out : History → List ℕ
 handed_out [] = []
-handed_out (e ∷ h) = edge_in (bearing e) ++ handed_out h
+handed_out (e ∷ h) = edge_handed (bearing e) ++ handed_out h
 
 -- the steps handed out since the claim
 abbrev pub steps : {h : History} → Stands h → List ℕ

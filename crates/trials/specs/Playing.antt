@@ -18,5 +18,5 @@ pub record Trial : Type 0 where
   pub calls : List Request
   pub answers : List Said
 
-abbrev pub Stands : Trial → Type 0
-Stands t = answers_from t.le t.unit fresh t.calls ≡ t.answers
+abbrev pub IsAnswered : Trial → Type 0
+IsAnswered t = answers_from t.le t.unit fresh t.calls ≡ t.answers

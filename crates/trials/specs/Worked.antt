@@ -6,7 +6,7 @@ use Rattle.price.specs.Tariffs.{by_cycles, one_read, by_weight, one_cycle}
 use Rattle.judge.specs.declared.refusals.Refusal.TheVariants.{Turns, Tree}
 use Rattle.certificate.specs.declared.faults.TreeFault.TheVariants.{NotOneTree, Range, AllowanceShort, BoundTooHigh}
 use Rattle.task.specs.declared.faults.TurnsFault.TheVariants.{Stranded, RowBroken}
-use Rattle.trials.specs.Playing.{Trial, Stands}
+use Rattle.trials.specs.Playing.{Trial, IsAnswered}
 
 -- ---- the loop: enter, sample, retry, leave
 
@@ -118,10 +118,10 @@ an_edge tail head c = edge_with tail head c.block c.cycles c.reads
 -- a loop that the run never enters: refused at edge 3, whatever the blocks, the prices and the tree
 abbrev pub BalancedButNoRun : Type 0
 BalancedButNoRun = (a b c d e : Costs) (tree : List ℤ) →
-    Stands (by_cycles_first
+    IsAnswered (by_cycles_first
     (an_edge 0 1 a ∷ an_edge 1 3 b ∷ an_edge 1 2 c ∷ an_edge 2 2 d ∷ an_edge 2 3 e ∷ seal ∷ claim (1 ∷ 1 ∷ 0 ∷ 5 ∷ 0 ∷ []) tree ∷ [])
     (number 0 ∷ number 1 ∷ number 2 ∷ number 3 ∷ number 4 ∷ ends 0 3 ∷ refused (Turns (Stranded 3)) ∷ []))
 
 pub record WorkedCasesStand : Type 0 where
-  pub cases : All Stands table
+  pub cases : All IsAnswered table
   pub no_run : BalancedButNoRun
