@@ -6,7 +6,7 @@ use Rattle.std.proofs.lemmas.List.{append-nil, nil_from_length}
 use Rattle.std.proofs.lemmas.Bool.{cond-true, eqb-true, le-leb, leb-true}
 use Rattle.std.proofs.lemmas.Slice.Eq.{text_from_reads}
 use Rattle.grammar.specs.Numbers.{after, natural_after}
-use Rattle.grammar.specs.Reading.{naturals_front, integers_in, edge_request, edge_in, row_request, row_in, claim_of, claim_in, void_in, alone, bare_call, by_word, request_in}
+use Rattle.grammar.specs.Reading.{naturals_front, integers_in, edge_request, edge_in, row_request, row_in, claim_request, claim_in, void_in, alone, bare_call, by_word, request_in}
 use Rattle.history.specs.Calls.{Request, edge, row, seal, claim, void, step, withdraw, told}
 use Rattle.grammar.specs.Spelling.{naturals, integers, Within, Spelling, Spells}
 use Rattle.grammar.proofs.Chains.{and_then_holds, map_holds, or_holds, test_holds}
@@ -39,7 +39,7 @@ row_sound text = and_then_holds row_request (integers_in 512 text) _ (integers_s
 
 claim_sound : (text : List ℕ) → IfSome (claim_in text) (Right (codes "claim" ++ text))
 claim_sound text =
-    and_then_holds claim_of (natural_after text) _ (one_natural.sound text) (λ n count. test_holds (leb n.0 511) _ _ (λ few.
+    and_then_holds claim_request (natural_after text) _ (one_natural.sound text) (λ n count. test_holds (leb n.0 511) _ _ (λ few.
     and_then_holds _ (naturals_front n.0 n.1) _ (naturals_sound n.0 n.1) (λ p turns.
     map_holds (claim p.0) (integers_in (511 - n.0) p.1) _ (integers_sound (511 - n.0) p.1) (λ tree backing.
     let less = leb-true n.0 511 few in

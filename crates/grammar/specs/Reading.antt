@@ -35,12 +35,12 @@ abbrev pub row_in : List ℕ → Option Request
 row_in text = option_and_then row_request (integers_in 512 text)
 
 -- the count of turns, the turns, and the tree
-abbrev pub claim_of : ℕ × List ℕ → Option Request
-claim_of n =
+abbrev pub claim_request : ℕ × List ℕ → Option Request
+claim_request n =
     cond (nat_le n.0 511) (option_and_then (λ p. option_map (claim p.0) (integers_in (511 - n.0) p.1)) (naturals_front n.0 n.1)) None
 
 abbrev pub claim_in : List ℕ → Option Request
-claim_in text = option_and_then claim_of (natural_after text)
+claim_in text = option_and_then claim_request (natural_after text)
 
 abbrev pub void_in : List ℕ → Option Request
 void_in text = option_map void (integers_in 512 text)

@@ -62,7 +62,7 @@ module _ (es : List Edge) (rows : List Row) (s e : ℕ) (claimed : List ℕ) (en
         end = e;
         ends = ends.end.is;
         node = at_after es s front;
-        stands = (begun front follows).path;
+        leads = (begun front follows).path;
         goes_on = more.off;
         takes = subst (λ left. Takes es claimed e left (at_after es s front) x) (left_same front follows) more.named;
       }

@@ -24,7 +24,7 @@ pub record Named (es : List Edge) (claimed handed : List ℕ) (x : ℕ) : Type 0
   pub end : ℕ
   pub ends : End es end
   pub node : ℕ
-  pub stands : Path es start node handed
+  pub leads : Path es start node handed
   pub goes_on : node ≡ end → ⊥
   pub takes : Takes es claimed end (turns_left claimed handed) node x
 

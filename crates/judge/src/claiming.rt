@@ -80,7 +80,7 @@ impl Case {
     }
 
     // Judges a claim in one sense, under a tariff that finds a price no dearer than another exactly when it is no better in that sense.
-    fn weigh<T: Tariff>(
+    fn claim_in<T: Tariff>(
         &mut self,
         sense: Sense,
         tariff: &T,
@@ -127,7 +127,7 @@ impl Case {
         ensures kept { self.new ≡ claim_kept Longest result self.old turns.now }
         ensures accepted { IfOk result (λ p. Accepted Longest (T.le tariff.now) self.old.edges self.old.rows turns.now p) }
     {
-        self.weigh(Sense::Longest, tariff, turns, tree)
+        self.claim_in(Sense::Longest, tariff, turns, tree)
     }
 
     /// Judges the claim that no run keeps every row, backed by this tree.

@@ -1,7 +1,7 @@
 use Rattle.std.proofs.Common.{vec_items, sym, ap, subst}
 use Rattle.task.specs.Sealing.{Ends}
 use Rattle.judge.proofs.Accepts.{claim_between, sealed_ends}
-use Rattle.judge.proofs.case.Case.weigh.Goals as goal
+use Rattle.judge.proofs.case.Case.claim_in.Goals as goal
 
 pub returns-in_ok-price-in-Sealed-clause-accepted : goal.returns-in_ok-price-in-Sealed-clause-accepted
 returns-in_ok-price-in-Sealed-clause-accepted g c =
