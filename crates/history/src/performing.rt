@@ -1,9 +1,11 @@
 // Any call, by one function.
-ghost use Rattle.std.specs.Prelude.{◌≡◌};
-ghost use Rattle.history.specs.Answers.{said};
+ghost use Rattle.std.specs.Prelude.{◌≡◌, ◌^◌};
+ghost use Rattle.history.specs.Answers.{price, said};
 ghost use Rattle.history.specs.Calls.{request};
 ghost use Rattle.history.specs.Performing.{after, answered};
 ghost use Rattle.history.specs.Reaching.{KeepsRules};
+ghost use Rattle.price.specs.Pairs.{Pair};
+ghost use Rattle.price.specs.Ranges.{Both};
 
 use crate::calls::{Answer, Call};
 use judge::{Case, Refusal};
@@ -13,6 +15,7 @@ use price::Tariff;
 fn dispatch<T: Tariff>(case: &mut Case, tariff: &T, call: &Call) -> Result<Answer, Refusal>
     ensures answer { said result ≡ answered (T.le tariff.now) (T.unit tariff.now) case.old (request call.now) }
     ensures kept { case.new ≡ after (T.le tariff.now) (T.unit tariff.now) case.old (request call.now) }
+    ensures small { (p : Pair) → said result ≡ price p → Both (2 ^ 42) p }
 {
     // calls are data, read from a line, and each kind has numbers of its own
     match *call {
@@ -39,6 +42,7 @@ fn dispatch<T: Tariff>(case: &mut Case, tariff: &T, call: &Call) -> Result<Answe
 pub fn perform<T: Tariff>(case: &mut Case, tariff: &T, call: &Call) -> Result<Answer, Refusal>
     ensures answer { said result ≡ answered (T.le tariff.now) (T.unit tariff.now) case.old (request call.now) }
     ensures kept { case.new ≡ after (T.le tariff.now) (T.unit tariff.now) case.old (request call.now) }
+    ensures small { (p : Pair) → said result ≡ price p → Both (2 ^ 42) p }
     ensures rules { KeepsRules (T.le tariff.now) (T.unit tariff.now) case.old (request call.now) (said result) case.new }
 {
     dispatch(case, tariff, call)

@@ -1,10 +1,11 @@
 -- What an accepted claim and an accepted void claim say.
-use Rattle.std.proofs.Common.{◌≡◌, ℕ, ◌≤◌, Bool, true, List, length, ℤ, pos, All, IfOk, Ok, Err, sum, Result, sym, refl, ap, ◌∙◌, subst, arith}
+use Rattle.std.proofs.Common.{◌≡◌, ℕ, ◌^◌, ◌≤◌, Bool, true, List, length, ℤ, pos, All, IfOk, Ok, Err, sum, Result, sym, refl, ap, ◌∙◌, subst, arith}
 use Rattle.std.proofs.lemmas.List.Elements.{All-from_get_or}
 use Rattle.std.proofs.lemmas.List.Sums.{sum_by-le}
 use Rattle.std.proofs.lemmas.Bool.Decides.{nat_tests}
 use Rattle.price.specs.Laws.{Laws}
 use Rattle.price.specs.Pairs.{Pair, zero}
+use Rattle.price.specs.Ranges.{Both}
 use Rattle.price.specs.declared.senses.Sense.{Sense}
 use Rattle.price.specs.declared.senses.Sense.TheVariants.{Longest}
 use Rattle.task.specs.EndsAnswer.{ends_answer}
@@ -20,7 +21,8 @@ use Rattle.task.proofs.Checks.{answers, exactly as exactly_sound}
 use Rattle.task.proofs.Flows.{claims}
 use Rattle.task.proofs.Seals.{answer_says, exactly}
 use Rattle.certificate.specs.Soundness.{NoneDearer}
-use Rattle.certificate.specs.Tasks.{Answer}
+use Rattle.certificate.specs.Tasks.{Answer, Task}
+use Rattle.certificate.specs.TreeJudged.{TreeJudged, too_many_edges, too_many_rows, price_range, of_list}
 use Rattle.certificate.specs.Verdicts as verdicts
 use Rattle.certificate.proofs.Meanings.{judged}
 use Rattle.certificate.proofs.AcceptedProves.{price_sound, void_sound}
@@ -57,6 +59,14 @@ tree_passed : (a : Answer) (u : Unit {0}) → then_ask Tree a (λ _. Ok u) ≡ O
 tree_passed (Ok _) u is = refl
 tree_passed (Err fault) u is = cc
 
+-- a tree that is accepted was judged for a price in its range
+claimable : (le : Pair → Pair → Bool) (unit : Pair) (task : Task) (sense : Sense) (c : Pair) (xs : List ℤ) (answer : Answer) →
+    TreeJudged le unit task sense c (pos 1000) xs answer → answer ≡ Ok tt → Both (2 ^ 42) c
+claimable le unit task sense c xs answer (too_many_edges fault _) is = cc
+claimable le unit task sense c xs answer (too_many_rows fault _ _) is = cc
+claimable le unit task sense c xs answer (price_range fault _ _ _) is = cc
+claimable le unit task sense c xs answer (of_list _ _ small _) is = small
+
 module _ (sense : Sense) (no_better : Pair → Pair → Bool) (unit : Pair) (es : List Edge) (rows : List Row) (s e : ℕ) (ts : List ℕ) (xs : List ℤ) (p : Pair)
     (is : claim_on sense no_better unit (task_between es rows s e) ts xs ≡ Ok p) where
   passed : (turns_answer es rows s e ts ≡ Ok tt) × (verdicts.price_answer no_better unit (task_between es rows s e) sense (price_of sense es ts) xs ≡ Ok tt) × (price_of sense es ts ≡ p)
@@ -64,6 +74,12 @@ module _ (sense : Sense) (no_better : Pair → Pair → Bool) (unit : Pair) (es 
 
   pub price_is : p ≡ price_of sense es ts
   price_is = sym passed.2
+
+  pub small_price : Both (2 ^ 42) p
+  small_price =
+      let c = price_of sense es ts in
+      let task = task_between es rows s e in
+      subst (Both (2 ^ 42)) passed.2 (claimable no_better unit task sense c xs _ (judged no_better unit task sense c (pos 1000) xs) passed.1)
 
   -- the turns of a claim that passed are sound, and few
   pub sound_turns : Sound es rows s e ts

@@ -1,8 +1,9 @@
 // The calls that judge a claim. What a call does depends on the stage: each matches on it.
-ghost use Rattle.std.specs.Prelude.{◌≡◌, ◌≤◌, length, IfOk, OnOk};
+ghost use Rattle.std.specs.Prelude.{◌≡◌, ◌^◌, ◌≤◌, length, IfOk, OnOk};
 ghost use Rattle.certificate.specs.Tasks.{task_of};
 ghost use Rattle.judge.specs.Claiming.{Accepted, Voided, claim_answer, claim_kept, claim_on, task_between, void_answer, void_kept, void_on};
 ghost use Rattle.judge.specs.Counts.{Few};
+ghost use Rattle.price.specs.Ranges.{Both};
 ghost use Rattle.price.specs.declared.senses.Sense.TheVariants.{Longest};
 
 use crate::case::Case;
@@ -90,6 +91,7 @@ impl Case {
         ensures answer { result ≡ claim_answer sense (T.le tariff.now) (T.unit tariff.now) self.old turns.now tree.now }
         ensures kept { self.new ≡ claim_kept sense result self.old turns.now }
         ensures accepted { IfOk result (λ p. Accepted sense (T.le tariff.now) self.old.edges self.old.rows turns.now p) }
+        ensures small { IfOk result (λ p. Both (2 ^ 42) p) }
     {
         let stage = self.stage;
         match stage {
@@ -126,6 +128,7 @@ impl Case {
         ensures answer { result ≡ claim_answer Longest (T.le tariff.now) (T.unit tariff.now) self.old turns.now tree.now }
         ensures kept { self.new ≡ claim_kept Longest result self.old turns.now }
         ensures accepted { IfOk result (λ p. Accepted Longest (T.le tariff.now) self.old.edges self.old.rows turns.now p) }
+        ensures small { IfOk result (λ p. Both (2 ^ 42) p) }
     {
         self.claim_in(Sense::Longest, tariff, turns, tree)
     }

@@ -1,6 +1,7 @@
 // The record of a row.
-ghost use Rattle.std.specs.Prelude.{◌≡◌, length};
+ghost use Rattle.std.specs.Prelude.{◌≡◌, true, length};
 ghost use Rattle.price.specs.Ranges.{Within};
+ghost use Rattle.task.specs.Coefficients.{all_small};
 ghost use Rattle.task.specs.Rows.{coefficient};
 
 use std::marker::Model;
@@ -37,6 +38,16 @@ impl Model for Row {
 }
 
 impl Row {
+    /// The theorem that a row keeps to its ranges.
+    pub fn keeps_ranges(&self)
+        ensures k_fits { Within 1048576 self.now.k }
+        ensures every_block { length self.now.coefficients ≡ 64 }
+        ensures all_fit { all_small self.now.coefficients ≡ true }
+    {
+        // the facts of a row are known once a field of it is touched
+        let _ = &self.coefficients;
+    }
+
     pub fn relation(&self) -> Relation
         ensures { result ≡ self.now.relation }
     {

@@ -29,7 +29,7 @@ module _ (weight : Edge → ℤ) (es : List Edge) (ts : List ℕ) (x sum : ℕ) 
 
 -- a price of small parts is refused by nothing
 small_price : (a : Pair) (r : Result Pair OutOfRange) → Priced a r → Both (2 ^ 42) a → Small r
-small_price a (Ok p) is small = subst (Both (2 ^ 42)) (sym is) small
+small_price a (Ok p) is small = subst (Both (2 ^ 42)) (sym is.0) small
 small_price a (Err e) is small = is.1 (omega (arith, ints))
 
 pub loop-x-preserved : goal.loop-x-preserved
