@@ -1,5 +1,5 @@
 -- Marks that spread over live edges, pass by pass.
-use Rattle.std.proofs.Common.{◌≡◌, ℕ, suc, ◌+◌, ◌<◌, Bool, true, false, not, ◌⊎◌, List, [], ◌∷◌, length, get_or, set, replicate, refl, ap, ◌∙◌, ⊎_elim, arith, length-set}
+use Rattle.std.proofs.Common.{◌≡◌, ℕ, suc, ◌+◌, ◌<◌, ◌≤◌, Bool, true, false, not, ◌⊎◌, List, [], ◌∷◌, length, get_or, set, replicate, refl, ap, ◌∙◌, ⊎_elim, arith, length-set}
 use Rattle.std.specs.List.{All}
 use Rattle.std.proofs.lemmas.Bool.Decides.{same_from_decides}
 use Rattle.std.proofs.lemmas.Grind.{get_or-set_at}
@@ -11,11 +11,15 @@ use Rattle.task.specs.declared.edges.Edge.{Edge}
 use Rattle.task.specs.declared.edges.Side.{Side}
 use Rattle.task.specs.Lowest.{one_if}
 use Rattle.task.specs.Sides.{other_side, end_of, is_live, reaches}
-use Rattle.task.specs.Spreading.{Spread, is_marked, unmarked, Pass}
+use Rattle.task.specs.Spreading.{Spread, is_marked, unmarked, IsToMark, Pass}
 use Rattle.task.specs.Ways.{Way}
 use Rattle.task.proofs.Reach.{within_way, way_reach, spread_way}
 
 -- ---- one mark more
+
+one_if_most : (b : Bool) → one_if (not b) ≤ 1
+one_if_most true = omega arith
+one_if_most false = omega arith
 
 module _ (marks : List Bool) (u v : ℕ) where
   mark_kept : u < length marks → is_marked marks v ≡ true → is_marked (set marks u true) v ≡ true
@@ -24,22 +28,22 @@ module _ (marks : List Bool) (u v : ℕ) where
   mark_cases : is_marked (set marks u true) v ≡ true → (v ≡ u) ⊎ (is_marked marks v ≡ true)
   mark_cases m = grind (arith, get_or-set_other marks u v true false)
 
--- ---- one pass, from the last edge to the first
+-- ---- one pass, either way
 
 module _ (es : List Edge) (ts : List ℕ) (side : Side) (before after : List Bool) (settled : Bool) (n x : ℕ) (pass : Pass es ts side before after settled n) where
-  pub pass_marks : (u w : ℕ) → u ≡ end_of es side x → w ≡ end_of es (other_side side) x → x < length es → is_live ts x ≡ true → is_marked after w ≡ true →
-      u < length after → is_marked after u ≡ false → Pass es ts side before (set after u true) false x
-  pass_marks u w from to low on there small blank = record {
+  -- one mark more: nothing is told of edges yet, or of none
+  pub pass_marks : (u m : ℕ) (then : Bool) → (then ≡ true → length es ≤ m) → x < length es → IsToMark es ts side after x u → Pass es ts side before (set after u true) then m
+  pass_marks u m then late low marks = record {
     sized = length-set after u true ∙ pass.sized;
-    keeps = λ v m. mark_kept after u v small (pass.keeps v m);
-    right = λ p spreads so v m. ⊎_elim
-        (λ (e : v ≡ u). rw (e, from) (spreads x low on (rw to at (pass.right p spreads so w there))))
+    keeps = λ v mark. mark_kept after u v marks.small (pass.keeps v mark);
+    right = λ p spreads so v mark. ⊎_elim
+        (λ (e : v ≡ u). rw (e, marks.from) (spreads x low marks.live (pass.right p spreads so _ marks.to)))
         (λ was. pass.right p spreads so v was)
-        (mark_cases after u v m);
-    done = λ s. absurd (both_ways false refl s);
+        (mark_cases after u v mark);
+    done = λ s y from below. absurd (omega (arith, late s));
     fewer =
-        let one : unmarked (set after u true) + one_if (not (get_or after u false)) ≡ unmarked after + 0 = sum_by-set (λ m. one_if (not m)) after u true false small in
-        omega (arith, pass.fewer, one, ap (λ b. one_if (not b)) blank);
+        let one : unmarked (set after u true) + one_if (not (get_or after u false)) ≡ unmarked after + 0 = sum_by-set (λ m. one_if (not m)) after u true false marks.small in
+        omega (arith, pass.fewer, one, ap (λ b. one_if (not b)) marks.blank, one_if_most then);
   }
 
 -- ---- until nothing changes
@@ -80,6 +84,15 @@ module _ (es : List Edge) (ts : List ℕ) (side : Side) (goal : ℕ) where
     right = pass.right (reaches es ts side goal) reaches_on marked.right;
     at_goal = pass.keeps goal marked.at_goal;
     done = λ s x low. pass.done s x (omega arith) low;
+  }
+
+  -- a pass of which nothing is told
+  pub marked_more : (before after : List Bool) (was told : Bool) (n : ℕ) → Marked es ts side goal before was → Pass es ts side before after told n → Marked es ts side goal after false
+  marked_more before after was told n marked pass = record {
+    sized = pass.sized ∙ marked.sized;
+    right = pass.right (reaches es ts side goal) reaches_on marked.right;
+    at_goal = pass.keeps goal marked.at_goal;
+    done = λ s. absurd (both_ways false refl s);
   }
 
   -- when nothing more spreads, the marks are the nodes from which the goal is reached

@@ -1,5 +1,5 @@
 // Whether turns keep every row.
-ghost use Rattle.std.specs.Prelude.{◌≡◌, ◌^◌, length, pos, ◌*ℤ◌};
+ghost use Rattle.std.specs.Prelude.{◌≡◌, ◌^◌, ◌<◌, length, pos, ◌*ℤ◌};
 ghost use Rattle.price.specs.Ranges.{Within};
 ghost use Rattle.task.specs.Lowest.{first};
 ghost use Rattle.task.specs.Rows.{row_sum};
@@ -48,10 +48,18 @@ impl Flow<'_> {
             .is_met(self.row_sum(row), i128::from(row.k()))
     }
 
+    // Whether the turns do not keep row `i`.
+    fn breaks(self, rows: &[Row], i: usize) -> bool
+        requires { i < length rows.now }
+        ensures { result ≡ broken self.entry.edges.now rows.now self.entry.turns.now i }
+    {
+        !self.keeps(&rows[i])
+    }
+
     // The lowest row that the turns do not keep.
     pub(crate) fn first_broken(self, rows: &[Row]) -> Option<usize>
         ensures { result ≡ first (broken self.entry.edges.now rows.now self.entry.turns.now) (length rows.now) }
     {
-        rows.iter().position(|row| !self.keeps(row))
+        (0..rows.len()).find(|i| self.breaks(rows, *i))
     }
 }

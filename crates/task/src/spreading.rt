@@ -1,7 +1,7 @@
 // Which nodes are joined to a node.
-ghost use Rattle.std.specs.Prelude.{◌≡◌, ℕ, false, slice_index_or};
+ghost use Rattle.std.specs.Prelude.{◌≡◌, ℕ, ◌<◌, true, false, length, slice_index_or};
 ghost use Rattle.task.specs.Sides.{is_live, reaches};
-ghost use Rattle.task.specs.Spreading.{Pass};
+ghost use Rattle.task.specs.Spreading.{Pass, ToMark};
 
 use crate::edges::Side;
 use crate::numbers::{NODES, Node};
@@ -15,6 +15,17 @@ impl Flow<'_> {
         self.turns.get(x).copied().unwrap_or(1) > 0
     }
 
+    // The node that edge `x` is to mark: it is live, leads to a marked node, and comes from this one, which has no mark.
+    fn to_mark(self, x: usize, side: Side, marks: &[bool; NODES]) -> Option<usize>
+        requires { x < length self.edges.now }
+        ensures { ToMark self.entry.edges.now self.entry.turns.now side marks.now x result }
+    {
+        let edge = &self.edges[x];
+        let from = edge.node(side).index();
+        let to = edge.node(side.other()).index();
+        (!marks[from] && marks[to] && self.is_live(x)).then_some(from)
+    }
+
     // One pass over the edges: marks each node from which a live edge leads to a marked one, and tells whether there was none.
     // It goes from the last edge to the first: most edges lead to a node that later edges leave, so that few passes find all that reach the end.
     fn spread(self, side: Side, marks: &mut [bool; NODES]) -> bool
@@ -22,15 +33,23 @@ impl Flow<'_> {
     {
         let mut settled = true;
         for x in (0..self.edges.len()).rev() {
-            let edge = &self.edges[x];
-            let from = edge.node(side).index();
-            let to = edge.node(side.other()).index();
-            if !marks[from] && marks[to] && self.is_live(x) {
+            if let Some(from) = self.to_mark(x, side, marks) {
                 marks[from] = true;
                 settled = false;
             }
         }
         settled
+    }
+
+    // A pass from the first edge to the last, for edges that are listed the other way round. It does not tell whether there was none.
+    fn spread_on(self, side: Side, marks: &mut [bool; NODES])
+        ensures { Pass self.entry.edges.now self.entry.turns.now side marks.old marks.new true (length self.entry.edges.now) }
+    {
+        for x in 0..self.edges.len() {
+            if let Some(from) = self.to_mark(x, side, marks) {
+                marks[from] = true;
+            }
+        }
     }
 
     // Marks the nodes joined to `goal` by live edges: from tail to head those that reach it (`Side::Tail`), and those reached from it (`Side::Head`).
@@ -42,6 +61,9 @@ impl Flow<'_> {
         let mut settled = false;
         while !settled {
             settled = self.spread(side, &mut marks);
+            if !settled {
+                self.spread_on(side, &mut marks);
+            }
         }
         marks
     }
