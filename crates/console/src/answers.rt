@@ -1,5 +1,5 @@
 // The reply that tells an answer.
-ghost use Rattle.std.specs.Prelude.{Ok, ◌≡◌, ◌+◌, ◌≤◌, ◌∷◌, [], ◌++◌, length};
+ghost use Rattle.std.specs.Prelude.{Ok, Err, ◌≡◌, ◌+◌, ◌≤◌, ◌∷◌, [], ◌++◌, length};
 ghost use Rattle.console.specs.Rendering.{rendered};
 ghost use Rattle.grammar.specs.Spelling.{integers};
 ghost use Rattle.history.specs.Answers.{said, told};
@@ -23,111 +23,143 @@ pub(crate) struct Reply {
 }
 
 impl Reply {
-    // A reply of a word alone, or of a text that begins a reply.
-    fn word(word: &str) -> Reply
-        requires { length word.now ≤ 12 }
-        ensures { result.text.bytes ≡ word.now }
+    pub(crate) fn new() -> Reply
+        ensures { result.text.bytes ≡ [] }
     {
-        let mut text = ArrayString::new();
-        text.push_str(word);
-        Reply { text }
+        Reply {
+            text: ArrayString::new(),
+        }
     }
 
-    // The reply with a number more.
-    fn number<I: Integer>(mut self, number: I) -> Reply
-        requires { length self.text.bytes + (1 + I.MAX_STR_LEN) ≤ 64 }
-        ensures text { result.text.bytes ≡ self.text.bytes ++ (32 ∷ I.text number) }
-        ensures short { length result.text.bytes ≤ length self.text.bytes + (1 + I.MAX_STR_LEN) }
+    // A word, or a text that begins a reply.
+    fn word(&mut self, word: &str)
+        requires { (self.old.text.bytes ≡ []) × (length word.now ≤ 12) }
+        ensures { self.new.text.bytes ≡ word.now }
+    {
+        self.text.push_str(word);
+    }
+
+    // A number more.
+    fn number<I: Integer>(&mut self, number: I)
+        requires { length self.old.text.bytes + (1 + I.MAX_STR_LEN) ≤ 64 }
+        ensures text { self.new.text.bytes ≡ self.old.text.bytes ++ (32 ∷ I.text number) }
+        ensures short { length self.new.text.bytes ≤ length self.old.text.bytes + (1 + I.MAX_STR_LEN) }
     {
         self.text.push(' ');
         self.text.push_str(Buffer::new().format(number));
-        self
     }
 
-    // The reply with a part of a price more: at most 18 bytes, where any `i64` may take 21.
-    fn part(self, part: i64) -> Reply
-        requires { (length self.text.bytes + 21 ≤ 64) × Part part }
-        ensures text { result.text.bytes ≡ self.text.bytes ++ (32 ∷ signed_decimal part) }
-        ensures short { length result.text.bytes ≤ length self.text.bytes + 18 }
+    // A part of a price more: at most 18 bytes, where any `i64` may take 21.
+    fn part(&mut self, part: i64)
+        requires { (length self.old.text.bytes + 21 ≤ 64) × Part part }
+        ensures text { self.new.text.bytes ≡ self.old.text.bytes ++ (32 ∷ signed_decimal part) }
+        ensures short { length self.new.text.bytes ≤ length self.old.text.bytes + 18 }
     {
-        self.number(part)
+        self.number(part);
     }
 
-    // The reply with the cycles and the reads of a price more.
-    fn price(self, price: Price) -> Reply
-        requires { length self.text.bytes + 39 ≤ 64 }
-        ensures text { result.text.bytes ≡ self.text.bytes ++ integers (price.0 ∷ price.1 ∷ []) }
-        ensures short { length result.text.bytes ≤ length self.text.bytes + 36 }
+    // The cycles and the reads of a price more.
+    fn price(&mut self, price: Price)
+        requires { length self.old.text.bytes + 39 ≤ 64 }
+        ensures text { self.new.text.bytes ≡ self.old.text.bytes ++ integers (price.0 ∷ price.1 ∷ []) }
+        ensures short { length self.new.text.bytes ≤ length self.old.text.bytes + 36 }
     {
-        self.part(price.cycles()).part(price.reads())
+        self.part(price.cycles());
+        self.part(price.reads());
+    }
+
+    // The line feed at its end.
+    fn end(&mut self)
+        requires { length self.old.text.bytes + 1 ≤ 64 }
+        ensures { self.new.text.bytes ≡ self.old.text.bytes ++ (10 ∷ []) }
+    {
+        self.text.push('\n');
     }
 
     // The stage of a case, its price and its counts; only a claim that stands has any. The feed is yet to come.
     #[tactic(auto, using(crate::proofs::ReportReplies::idle_told, crate::proofs::ReportReplies::standing_told))]
-    fn told(report: Report) -> Reply
-        ensures text { result.text.bytes ++ (10 ∷ []) ≡ rendered (told (shown report)) }
-        ensures short { length result.text.bytes ≤ 63 }
+    fn report(&mut self, report: Report)
+        requires { self.old.text.bytes ≡ [] }
+        ensures text { self.new.text.bytes ++ (10 ∷ []) ≡ rendered (told (shown report)) }
+        ensures short { length self.new.text.bytes ≤ 63 }
     {
         match report {
-            Report::Draft => Reply::word("ok 0 0 0 0 0"),
-            Report::Sealed => Reply::word("ok 1 0 0 0 0"),
+            Report::Draft => self.word("ok 0 0 0 0 0"),
+            Report::Sealed => self.word("ok 1 0 0 0 0"),
             Report::Standing {
                 sense: Sense::Longest,
                 proof: Proof::Certified,
                 price,
                 steps,
                 left,
-            } => Reply::word("ok 2").price(price).number(steps).number(left),
-            Report::Void => Reply::word("ok 3 0 0 0 0"),
+            } => {
+                self.word("ok 2");
+                self.price(price);
+                self.number(steps);
+                self.number(left);
+            }
+            Report::Void => self.word("ok 3 0 0 0 0"),
         }
     }
 
-    // The reply with a line feed at its end.
-    fn ended(mut self) -> Reply
-        requires { length self.text.bytes + 1 ≤ 64 }
-        ensures { result.text.bytes ≡ self.text.bytes ++ (10 ∷ []) }
-    {
-        self.text.push('\n');
-        self
-    }
-
-    // The reply that tells an answer.
-    fn answer(answer: Answer) -> Reply
-        ensures { result.text.bytes ≡ rendered (said (Ok answer)) }
+    // What tells an answer. The feed is yet to come.
+    fn answer(&mut self, answer: Answer)
+        requires { self.old.text.bytes ≡ [] }
+        ensures text { self.new.text.bytes ++ (10 ∷ []) ≡ rendered (said (Ok answer)) }
+        ensures short { length self.new.text.bytes ≤ 63 }
     {
         match answer {
-            Answer::Number(n) => Reply::word("ok").number(n).ended(),
-            Answer::Ends(start, end) => Reply::word("ok")
-                .number(start.index())
-                .number(end.index())
-                .ended(),
-            Answer::Price(price) => Reply::word("ok").price(price).ended(),
-            Answer::Next(edge) => Reply::word("ok").number(edge).ended(),
-            Answer::Done => Reply::word("ok done").ended(),
-            Answer::Agreed => Reply::word("ok").ended(),
-            Answer::Told(report) => Reply::told(report).ended(),
+            Answer::Number(n) => {
+                self.word("ok");
+                self.number(n);
+            }
+            Answer::Ends(start, end) => {
+                self.word("ok");
+                self.number(start.index());
+                self.number(end.index());
+            }
+            Answer::Price(price) => {
+                self.word("ok");
+                self.price(price);
+            }
+            Answer::Next(edge) => {
+                self.word("ok");
+                self.number(edge);
+            }
+            Answer::Done => self.word("ok done"),
+            Answer::Agreed => self.word("ok"),
+            Answer::Told(report) => self.report(report),
         }
     }
 
-    /// The reply that tells what a call answered.
-    pub(crate) fn of(outcome: Result<Answer, Refusal>) -> Reply
-        ensures { result.text.bytes ≡ rendered (said outcome) }
+    // What tells a refusal. The feed is yet to come.
+    fn refusal(&mut self, refusal: Refusal)
+        requires { self.old.text.bytes ≡ [] }
+        ensures text { self.new.text.bytes ++ (10 ∷ []) ≡ rendered (said (Err refusal)) }
+        ensures short { length self.new.text.bytes ≤ 63 }
+    {
+        let (question, first, second) = refusal.numbers();
+        self.word("no");
+        self.number(question);
+        self.number(first);
+        self.number(second);
+    }
+
+    /// Tells what a call answered, in place: a reply handed on by value is copied right behind the bytes just written.
+    pub(crate) fn tell(&mut self, outcome: Result<Answer, Refusal>)
+        requires { self.old.text.bytes ≡ [] }
+        ensures { self.new.text.bytes ≡ rendered (said outcome) }
     {
         match outcome {
-            Ok(answer) => Reply::answer(answer),
-            Err(refusal) => {
-                let (question, first, second) = refusal.numbers();
-                Reply::word("no")
-                    .number(question)
-                    .number(first)
-                    .number(second)
-                    .ended()
-            }
+            Ok(answer) => self.answer(answer),
+            Err(refusal) => self.refusal(refusal),
         }
+        self.end();
     }
 
     pub(crate) fn as_bytes(&self) -> &[u8]
-        ensures { result.now ≡ self.now.text.bytes }
+        ensures bytes { result.now ≡ self.now.text.bytes }
+        ensures few { length result.now ≤ 64 }
     {
         self.text.as_bytes()
     }

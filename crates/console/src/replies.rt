@@ -35,7 +35,8 @@ pub fn line(text: &[u8], case: &mut Case, reply: &mut [u8]) -> Result<usize, Ref
     if reply.len() < MAX_REPLY {
         return Err(Refusal::ReplyRoom);
     }
-    let told = Reply::of(judge_line(text, case, &mut Tables::new()));
+    let mut told = Reply::new();
+    told.tell(judge_line(text, case, &mut Tables::new()));
     let bytes = told.as_bytes();
     reply[..bytes.len()].copy_from_slice(bytes);
     Ok(bytes.len())

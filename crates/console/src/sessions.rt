@@ -27,7 +27,8 @@ fn push_reply(
 ) -> Result<(), AllocError>
     ensures { Pushed case.old text.now case.new replies.old.items replies.new.items result }
 {
-    let reply = Reply::of(judge_line(text, case, tables));
+    let mut reply = Reply::new();
+    reply.tell(judge_line(text, case, tables));
     replies.extend_from_slice(reply.as_bytes())
 }
 

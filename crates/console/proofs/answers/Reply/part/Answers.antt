@@ -5,4 +5,4 @@ use Rattle.console.proofs.answers.Reply.part.Goals as goal
 pub returns-clause-short : goal.returns-clause-short
 returns-clause-short c =
     let fit = c.ranges.part in
-    part_fits c.args.self.text.bytes _ c.args.part c.requires.1 (simp to_z-of_z at c.number.ensures.text)
+    part_fits c.args.self.now.text.bytes _ c.args.part c.requires.1 (simp to_z-of_z at c.number.ensures.text)
